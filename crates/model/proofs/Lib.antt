@@ -1,0 +1,11 @@
+pub mod Tests
+pub mod Machines
+pub mod Sharers
+pub mod Expand
+pub mod CopiesAgree
+pub mod Merge
+pub mod Split
+pub mod Sums
+pub mod Potential
+pub mod Bound
+pub mod Weaving

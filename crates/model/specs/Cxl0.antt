@@ -1,0 +1,261 @@
+-- CXL0: what a system of machines that share memory over Compute Express Link may do, in the words of document 01,
+-- "The model" (from source 000, section 3.3). Malluvom's promises are stated over this page and `Schedule`.
+-- A test is a Bool; each event and each silent step has one clause in `enabled` and one in `next`.
+use Prim.Native.Nat.{ℕ, zero, suc, _≤_, _<_}
+use mathlib.Core.Path.{_≡_}
+use mathlib.Core.Bool.{Bool, true, false, cond, not, _&&_, _||_}
+use mathlib.Core.List.{List, [], _∷_}
+use mathlib.Core.Option.{Option, none, some, Option·getD}
+use lib.Dec.{T, leb, ltb, eqb}
+use lib.ListN.{length, getD, take}
+
+-- ---- the system
+
+-- A machine's number counts from 1 and a location's from 0. Neither is ever added to or compared with the other.
+abbrev pub Machine : Type 0
+Machine = ℕ
+
+abbrev pub Location : Type 0
+Location = ℕ
+
+abbrev pub Value : Type 0
+Value = ℕ
+
+-- Where a location lives: in the memory of the machine that owns it.
+pub record Home : Type 0 where
+  pub owner : Machine
+
+-- The fixed part of a system (document 01: shelf): the number of machines, which of them have persistent memory (the
+-- others' is volatile), and the locations in the order of their numbers.
+pub record Topology : Type 0 where
+  pub machines : ℕ
+  pub persistent : Machine → Bool
+  pub homes : List Home
+
+unfoldable pub isMachine : Topology → Machine → Bool
+isMachine sys i = leb 1 i && leb i (sys .machines)
+
+unfoldable pub isLocation : Topology → Location → Bool
+isLocation sys x = ltb x (length (sys .homes))
+
+-- The owner of a location. One that is not listed has none, which 0 stands for.
+unfoldable pub owner : Topology → Location → Machine
+owner sys x = getD (sys .homes) x (record { owner = 0 }) .owner
+
+-- Each location has one owner, a machine of the system.
+abbrev pub WellFormed : Topology → Type 0
+WellFormed sys = (x : Location) → T (isLocation sys x) → T (isMachine sys (owner sys x))
+
+-- The value that a location's memory holds at the start, and again after a crash that clears it.
+unfoldable pub initial : Topology → Location → Value
+initial sys x = 0
+
+-- ---- the state
+
+-- What each machine's cache holds for each location, a value or nothing, and the value of each location's memory.
+pub record State : Type 0 where
+  pub cache : Machine → Location → Option Value
+  pub memory : Location → Value
+
+-- At the start caches hold nothing and memories hold their initial value.
+unfoldable pub start : Topology → State
+start sys = record { cache = λ i x. none; memory = initial sys }
+
+abbrev pub holds : Option Value → Bool
+holds none = false
+holds (some v) = true
+
+-- Nothing, or this value and no other.
+abbrev pub agrees : Value → Option Value → Bool
+agrees v none = true
+agrees v (some u) = eqb u v
+
+-- Of machines 1 to n: some, or every one, passes a test.
+unfoldable pub someMachine : ℕ → (Machine → Bool) → Bool
+someMachine zero test = false
+someMachine (suc n) test = test (suc n) || someMachine n test
+
+unfoldable pub everyMachine : ℕ → (Machine → Bool) → Bool
+everyMachine zero test = true
+everyMachine (suc n) test = test (suc n) && everyMachine n test
+
+-- Some cache holds x.
+unfoldable pub cached : Topology → State → Location → Bool
+cached sys s x = someMachine (sys .machines) (λ j. holds (s .cache j x))
+
+-- ---- events and silent steps
+
+-- What a log records: by machine i, on location x, of value v.
+pub data Event : Type 0 where
+  LStore RStore MStore Load : (i : Machine) (x : Location) (v : Value) → Event
+  LFlush RFlush : (i : Machine) (x : Location) → Event
+  Crash : (i : Machine) → Event
+
+-- What nobody sees (document 01: silent steps). `Propagate` is its move: i's copy goes to the owner's cache.
+pub data Silent : Type 0 where
+  Propagate : (i : Machine) (x : Location) → Silent
+  WriteBack : (x : Location) → Silent
+
+pub data Action : Type 0 where
+  event : Event → Action
+  silent : Silent → Action
+
+-- The machines that an event crashes.
+unfoldable pub crashes : Event → Machine → Bool
+crashes (LStore i x v) j = false
+crashes (RStore i x v) j = false
+crashes (MStore i x v) j = false
+crashes (Load i x v) j = false
+crashes (LFlush i x) j = false
+crashes (RFlush i x) j = false
+crashes (Crash i) j = eqb j i
+
+-- The memory of a location is lost in a crash of its owner, if the owner's memory is volatile.
+unfoldable pub clears : Topology → Event → Location → Bool
+clears sys e x = crashes e (owner sys x) && not (sys .persistent (owner sys x))
+
+-- An action names machines and locations of the system.
+unfoldable pub named : Topology → Action → Bool
+named sys (event (LStore i x v)) = isMachine sys i && isLocation sys x
+named sys (event (RStore i x v)) = isMachine sys i && isLocation sys x
+named sys (event (MStore i x v)) = isMachine sys i && isLocation sys x
+named sys (event (Load i x v)) = isMachine sys i && isLocation sys x
+named sys (event (LFlush i x)) = isMachine sys i && isLocation sys x
+named sys (event (RFlush i x)) = isMachine sys i && isLocation sys x
+named sys (event (Crash i)) = isMachine sys i
+named sys (silent (Propagate i x)) = isMachine sys i && isLocation sys x
+named sys (silent (WriteBack x)) = isLocation sys x
+
+-- What an action asks of the state.
+unfoldable pub enabled : Topology → Action → State → Bool
+enabled sys (event (LStore i x v)) s = true
+enabled sys (event (RStore i x v)) s = true
+enabled sys (event (MStore i x v)) s = true
+-- if some cache holds x, it must hold v; if none does, the owner's memory must hold v
+enabled sys (event (Load i x v)) s =
+    cond (cached sys s x) (everyMachine (sys .machines) (λ j. agrees v (s .cache j x))) (eqb (s .memory x) v)
+-- i's cache holds nothing for x
+enabled sys (event (LFlush i x)) s = not (holds (s .cache i x))
+-- no cache holds x
+enabled sys (event (RFlush i x)) s = not (cached sys s x)
+enabled sys (event (Crash i)) s = true
+-- i is not the owner, and its cache holds x
+enabled sys (silent (Propagate i x)) s = not (eqb i (owner sys x)) && holds (s .cache i x)
+-- the owner's cache holds x
+enabled sys (silent (WriteBack x)) s = holds (s .cache (owner sys x) x)
+
+-- The caches after machine i's got c for x and every other one lost x.
+abbrev pub only : Machine → Location → Option Value → State → Machine → Location → Option Value
+only i x c s j y = cond (eqb y x) (cond (eqb j i) c none) (s .cache j y)
+
+-- The caches after machine i's got c for x, the others staying as they are.
+abbrev pub also : Machine → Location → Option Value → State → Machine → Location → Option Value
+also i x c s j y = cond (eqb y x) (cond (eqb j i) c (s .cache j y)) (s .cache j y)
+
+-- The caches after each one lost x.
+abbrev pub without : Location → State → Machine → Location → Option Value
+without x s j y = cond (eqb y x) none (s .cache j y)
+
+-- The state after an action. It is meant only where the action is possible.
+unfoldable pub next : Topology → Action → State → State
+-- i's cache gets v; every other cache loses x; memory stays
+next sys (event (LStore i x v)) s = record { cache = only i x (some v) s; memory = s .memory }
+-- the owner's cache gets v; every other cache loses x; memory stays
+next sys (event (RStore i x v)) s = record { cache = only (owner sys x) x (some v) s; memory = s .memory }
+-- the owner's memory gets v; every cache loses x
+next sys (event (MStore i x v)) s = record { cache = without x s; memory = λ y. cond (eqb y x) v (s .memory y) }
+-- if some cache holds x, i's cache gets v too; if none does, nothing changes
+next sys (event (Load i x v)) s = cond (cached sys s x) (record { cache = also i x (some v) s; memory = s .memory }) s
+next sys (event (LFlush i x)) s = s
+next sys (event (RFlush i x)) s = s
+-- i's cache is emptied; where i's memory is volatile, the locations that i owns return to their initial value
+next sys (event (Crash i)) s =
+    record {
+      cache = λ j y. cond (crashes (Crash i) j) none (s .cache j y);
+      memory = λ y. cond (clears sys (Crash i) y) (initial sys y) (s .memory y);
+    }
+-- i loses x, and the owner's cache gets the value that i's held
+next sys (silent (Propagate i x)) s =
+    record {
+      cache = λ j y. cond (eqb y x)
+          (cond (eqb j i) none (cond (eqb j (owner sys x)) (s .cache i y) (s .cache j y)))
+          (s .cache j y);
+      memory = s .memory;
+    }
+-- memory gets the value that the owner's cache holds, and every cache loses x
+next sys (silent (WriteBack x)) s =
+    record {
+      cache = without x s;
+      memory = λ y. cond (eqb y x) (Option·getD (s .cache (owner sys x) y) (s .memory y)) (s .memory y);
+    }
+
+-- ---- runs
+
+-- An action is possible if it names machines and locations of the system and the state is as it asks.
+unfoldable pub possible : Topology → Action → State → Bool
+possible sys a s = named sys a && enabled sys a s
+
+-- Every action of the list names machines and locations of the system.
+unfoldable pub allNamed : Topology → List Action → Bool
+allNamed sys [] = true
+allNamed sys (a ∷ acts) = named sys a && allNamed sys acts
+
+-- Each action of the list is possible in its turn.
+unfoldable pub runs : Topology → List Action → State → Bool
+runs sys [] s = true
+runs sys (a ∷ acts) s = possible sys a s && runs sys acts (next sys a s)
+
+-- The state that the list leads to.
+unfoldable pub after : Topology → List Action → State → State
+after sys [] s = s
+after sys (a ∷ acts) s = after sys acts (next sys a s)
+
+-- A run: events and silent steps from the start, each possible in its turn.
+abbrev pub Run : Topology → List Action → Type 0
+Run sys acts = T (runs sys acts (start sys))
+
+-- The events of a list of actions, and its silent steps.
+unfoldable pub events : List Action → List Event
+events [] = []
+events (event e ∷ acts) = e ∷ events acts
+events (silent s ∷ acts) = events acts
+
+unfoldable pub silents : List Action → List Silent
+silents [] = []
+silents (event e ∷ acts) = silents acts
+silents (silent s ∷ acts) = s ∷ silents acts
+
+-- A run of a list of events has exactly these events in this order, with any silent steps, or none, before, between and
+-- after them.
+unfoldable pub HasRun : Topology → List Event → Type 0
+HasRun sys es = (acts : List Action) × (events acts ≡ es) × Run sys acts
+
+-- The first impossible event: the least e, counted from 1, such that the first e events have no run.
+unfoldable pub FirstImpossible : Topology → List Event → ℕ → Type 0
+FirstImpossible sys es e =
+    (1 ≤ e) × (e ≤ length es) × ¬ HasRun sys (take e es) × ((d : ℕ) → d < e → HasRun sys (take d es))
+
+-- ---- how many
+
+unfoldable pub count : {A : Type 0} → (A → Bool) → List A → ℕ
+count test [] = 0
+count test (a ∷ l) = cond (test a) (suc (count test l)) (count test l)
+
+-- Stores are LStore, RStore and MStore.
+unfoldable pub isStore : Event → Bool
+isStore (LStore i x v) = true
+isStore (RStore i x v) = true
+isStore (MStore i x v) = true
+isStore (Load i x v) = false
+isStore (LFlush i x) = false
+isStore (RFlush i x) = false
+isStore (Crash i) = false
+
+unfoldable pub isLoad : Event → Bool
+isLoad (LStore i x v) = false
+isLoad (RStore i x v) = false
+isLoad (MStore i x v) = false
+isLoad (Load i x v) = true
+isLoad (LFlush i x) = false
+isLoad (RFlush i x) = false
+isLoad (Crash i) = false

@@ -1,0 +1,130 @@
+-- What one location sees of the model: which machines hold a copy, the value of the copies, and the value in memory.
+-- The theorems carry statements on the whole system to statements on this short form and back.
+use Prim.Native.Nat.{ℕ, zero, suc, _<_, _^_}
+use mathlib.Core.Path.{_≡_}
+use mathlib.Core.Bool.{Bool, true, false, cond, not, _&&_}
+use mathlib.Core.List.{List, [], _∷_}
+use mathlib.Core.Option.{Option, none, some}
+use lib.Dec.{T, eqb}
+use Rattle.model.specs.Cxl0.{Machine, Location, Value, Topology, owner, initial, State, clears, events}
+use Rattle.model.specs.Cxl0.{Event, LStore, RStore, MStore, Load, LFlush, RFlush, Crash}
+use Rattle.model.specs.Cxl0.{Silent, Propagate, WriteBack, Action, event, silent}
+use Rattle.model.specs.Sharers.{has, insert, remove}
+
+-- The short form of a location. The copies agree in value, so that a code and one value say what every cache holds;
+-- where the code is 0, no cache has `copy`.
+pub record Local : Type 0 where
+  pub code : ℕ
+  pub copy : Value
+  pub memory : Value
+
+-- The whole state that the short forms of its locations describe.
+unfoldable pub expand : (Location → Local) → State
+expand f =
+    record {
+      cache = λ i x. cond (has i (f x .code)) (some (f x .copy)) none;
+      memory = λ x. f x .memory;
+    }
+
+-- The location of an action; a crash has none.
+unfoldable pub eventAt : Location → Event → Bool
+eventAt x (LStore i y v) = eqb x y
+eventAt x (RStore i y v) = eqb x y
+eventAt x (MStore i y v) = eqb x y
+eventAt x (Load i y v) = eqb x y
+eventAt x (LFlush i y) = eqb x y
+eventAt x (RFlush i y) = eqb x y
+eventAt x (Crash i) = true
+
+unfoldable pub silentAt : Location → Silent → Bool
+silentAt x (Propagate i y) = eqb x y
+silentAt x (WriteBack y) = eqb x y
+
+-- An action concerns a location if it names it, and a crash concerns every location.
+unfoldable pub concerns : Location → Action → Bool
+concerns x (event e) = eventAt x e
+concerns x (silent s) = silentAt x s
+
+-- What an action that concerns x asks of x's short form.
+unfoldable pub enabledAt : Topology → Location → Action → Local → Bool
+enabledAt sys x (event (LStore i y v)) s = true
+enabledAt sys x (event (RStore i y v)) s = true
+enabledAt sys x (event (MStore i y v)) s = true
+enabledAt sys x (event (Load i y v)) s = cond (eqb (s .code) 0) (eqb (s .memory) v) (eqb (s .copy) v)
+enabledAt sys x (event (LFlush i y)) s = not (has i (s .code))
+enabledAt sys x (event (RFlush i y)) s = eqb (s .code) 0
+enabledAt sys x (event (Crash i)) s = true
+enabledAt sys x (silent (Propagate i y)) s = not (eqb i (owner sys x)) && has i (s .code)
+enabledAt sys x (silent (WriteBack y)) s = has (owner sys x) (s .code)
+
+-- One propagation: machine i's copy goes to the owner k.
+unfoldable pub moved : Machine → Machine → ℕ → ℕ
+moved k i c = insert k (remove i c)
+
+-- x's short form after an action that concerns x.
+unfoldable pub effect : Topology → Location → Action → Local → Local
+effect sys x (event (LStore i y v)) s = record { code = insert i 0; copy = v; memory = s .memory }
+effect sys x (event (RStore i y v)) s = record { code = insert (owner sys x) 0; copy = v; memory = s .memory }
+effect sys x (event (MStore i y v)) s = record { code = 0; copy = s .copy; memory = v }
+effect sys x (event (Load i y v)) s =
+    record { code = cond (eqb (s .code) 0) 0 (insert i (s .code)); copy = s .copy; memory = s .memory }
+effect sys x (event (LFlush i y)) s = s
+effect sys x (event (RFlush i y)) s = s
+effect sys x (event (Crash i)) s =
+    record {
+      code = remove i (s .code);
+      copy = s .copy;
+      memory = cond (clears sys (Crash i) x) (initial sys x) (s .memory);
+    }
+effect sys x (silent (Propagate i y)) s =
+    record { code = moved (owner sys x) i (s .code); copy = s .copy; memory = s .memory }
+effect sys x (silent (WriteBack y)) s = record { code = 0; copy = s .copy; memory = s .copy }
+
+-- An action elsewhere is always possible here and changes nothing.
+unfoldable pub possibleAt : Topology → Location → Action → Local → Bool
+possibleAt sys x a s = cond (concerns x a) (enabledAt sys x a s) true
+
+unfoldable pub nextAt : Topology → Location → Action → Local → Local
+nextAt sys x a s = cond (concerns x a) (effect sys x a s) s
+
+unfoldable pub startAt : Topology → Location → Local
+startAt sys x = record { code = 0; copy = 0; memory = initial sys x }
+
+-- The list runs at x, from a short form of x.
+unfoldable pub runsAt : Topology → Location → List Action → Local → Bool
+runsAt sys x [] s = true
+runsAt sys x (a ∷ acts) s = possibleAt sys x a s && runsAt sys x acts (nextAt sys x a s)
+
+-- The short form of x that the list leads to.
+unfoldable pub afterAt : Topology → Location → List Action → Local → Local
+afterAt sys x [] s = s
+afterAt sys x (a ∷ acts) s = afterAt sys x acts (nextAt sys x a s)
+
+-- All silent steps of the list are steps of x.
+unfoldable pub ownSteps : Location → List Action → Bool
+ownSteps x [] = true
+ownSteps x (event e ∷ acts) = ownSteps x acts
+ownSteps x (silent a ∷ acts) = silentAt x a && ownSteps x acts
+
+-- The list with only x's own silent steps.
+unfoldable pub ownOf : Location → List Action → List Action
+ownOf x [] = []
+ownOf x (event e ∷ acts) = event e ∷ ownOf x acts
+ownOf x (silent a ∷ acts) = cond (silentAt x a) (silent a ∷ ownOf x acts) (ownOf x acts)
+
+-- From the short form s, x has a run of the events with silent steps of its own.
+abbrev pub HasRunAt : Topology → Location → List Event → Local → Type 0
+HasRunAt sys x es s = (acts : List Action) × (events acts ≡ es) × T (ownSteps x acts) × T (runsAt sys x acts s)
+
+-- Code d is reached from code c by a chain of single propagations to the owner k, or by none.
+pub data Moves (k : Machine) : ℕ → ℕ → Type 0 where
+  stay : {c : ℕ} → Moves k c c
+  move : {c d : ℕ} (i : Machine) → T (not (eqb i k) && has i c) → Moves k (moved k i c) d → Moves k c d
+
+-- Short form t of x is reached from s by silent steps of x, or by none.
+pub data Silently (sys : Topology) (x : Location) : Local → Local → Type 0 where
+  still : {s : Local} → Silently sys x s s
+  step : {s t : Local} (a : Silent)
+      → T (silentAt x a && enabledAt sys x (silent a) s)
+      → Silently sys x (effect sys x (silent a) s) t
+      → Silently sys x s t

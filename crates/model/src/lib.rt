@@ -1,0 +1,74 @@
+// CXL0: what a system of machines that share memory may do. `State` is the state of a whole system, at most 6
+// machines and 32 locations, with a method for each event and each silent step: each says whether that action is
+// possible and hands back the state after it, or the same state. Their contracts are equations with the definitions
+// of specs/Cxl0.antt.
+
+// A machine, numbered from 1.
+pub struct Machine(pub u8);
+
+// A location, numbered from 0.
+pub struct Location(pub u8);
+
+// Where a location lives.
+pub struct Home {
+    pub owner: Machine,
+}
+
+// The fixed part of a system: machines 1 to `machines`, bit i - 1 of `persistent` set if machine i's memory is
+// persistent, and the first `locations` of `homes`.
+pub struct Topology {
+    pub machines: u8,
+    pub persistent: u8,
+    pub locations: u8,
+    pub homes: [Home; 32],
+}
+
+// What is known of one location: bit i - 1 of `sharers` is set if machine i's cache holds a copy, all copies have the
+// value `copy`, and `memory` is the value in memory.
+pub struct Entry {
+    pub sharers: u8,
+    pub copy: u32,
+    pub memory: u32,
+}
+
+pub struct State {
+    pub entries: [Entry; 32],
+}
+
+// The answer to an action: whether it was possible, and the state after it or, if it was not, the state as it was.
+pub struct Stepped {
+    pub possible: bool,
+    pub state: State,
+}
+
+// An event by its operation number; what the operation does not use is ignored.
+pub struct Event {
+    pub operation: u8,
+    pub machine: Machine,
+    pub location: Location,
+    pub value: u32,
+}
+
+pub fn entry_of(s: State, x: Location) -> Entry {
+    let at = x.0 as usize;
+    if at < 32 {
+        let e = s.entries[at];
+        e
+    } else {
+        Entry {
+            sharers: 0,
+            copy: 0,
+            memory: 0,
+        }
+    }
+}
+
+impl State {
+    pub fn put(mut self, x: Location, e: Entry) -> State {
+        let at = x.0 as usize;
+        if at < 32 {
+            self.entries[at] = e;
+        }
+        self
+    }
+}
