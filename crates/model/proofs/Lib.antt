@@ -8,4 +8,12 @@ pub mod Split
 pub mod Sums
 pub mod Potential
 pub mod Bound
+pub mod SilentSteps
+pub mod Gaps
+pub mod SomeSilent
+pub mod Decision
+pub mod Prefixes
+pub mod Owners
+pub mod MarkedLogs
 pub mod Weaving
+pub mod Theorems

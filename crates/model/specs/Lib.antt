@@ -1,6 +1,7 @@
 pub mod Cxl0
-pub mod Operations
 pub mod Schedule
+pub mod Operations
 pub mod Sharers
 pub mod OneLocation
 pub mod Meaning
+pub mod MarkedLogs

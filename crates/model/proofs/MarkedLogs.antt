@@ -1,0 +1,77 @@
+-- The marked logs have the verdicts that document 01 gives them: one computed test over the list, and one
+-- theorem that carries it to each log.
+use Prim.Native.Nat.{ℕ, zero, suc}
+use native.Mathlib.Nat.{le-of-suc-le-suc}
+use native.Mathlib.Omega.{arith}
+use mathlib.Core.Bool.{Bool, true, not, _&&_}
+use mathlib.Core.List.{List, [], _∷_, List·Memᴰ, List·Memᴰ·head, List·Memᴰ·tail}
+use lib.Dec.{T, T-not, leb, leb→le}
+use lib.ListN.{length, take}
+use Rattle.model.specs.Cxl0.{Topology, WellFormed, isMachine, isLocation, owner, initial}
+use Rattle.model.specs.Cxl0.{Event, crashes, clears, named, allNamed, FirstImpossible}
+use Rattle.model.specs.Sharers.{has, insert, remove}
+use Rattle.model.specs.OneLocation.{concerns, eventAt, moved, enabledAt, effect}
+use Rattle.model.specs.OneLocation.{possibleAt, nextAt, startAt}
+use Rattle.model.specs.Meaning.{ownersFit}
+use Rattle.model.specs.MarkedLogs.{Verdict, MarkedLog, log, three, persistent, volatile, logs}
+use Rattle.model.proofs.Tests.{and-l, and-r}
+use Rattle.model.proofs.Owners.{owners-fit}
+use Rattle.model.proofs.SomeSilent.{someMoved, someSilent}
+use Rattle.model.proofs.Decision.{good, everyBelow, decide, decide-correct}
+use Rattle.model.proofs.Prefixes.{has-run-fewer}
+
+-- The verdict is right: for event e + 1, the first e events have a run and the first e + 1 have none.
+unfoldable pub judged : Topology → List Event → ℕ → Bool
+judged sys es zero = decide sys es
+judged sys es (suc e) =
+    leb (suc e) (length es) && not (decide sys (take (suc e) es)) && decide sys (take e es)
+
+judged-correct : (sys : Topology) → WellFormed sys → (es : List Event) (e : ℕ)
+    → T (judged sys es e) → Verdict sys es e
+unfolding judged Verdict FirstImpossible
+judged-correct sys w es zero t = decide-correct sys w es .0 t
+judged-correct sys w es (suc e) t =
+    let listed = leb (suc e) (length es) in
+    let with = decide sys (take (suc e) es) in
+    let before = decide sys (take e es) in
+    let p = and-l (listed && not with) before t in
+    let r = decide-correct sys w (take e es) .0 (and-r (listed && not with) before t) in (
+      omega arith,
+      leb→le (suc e) (length es) (and-l listed (not with) p),
+      λ q. T-not with (and-r listed (not with) p) (decide-correct sys w (take (suc e) es) .1 q),
+      λ d h. has-run-fewer sys es d e (le-of-suc-le-suc h) r,
+    )
+
+-- The system is well formed and the verdict is right.
+unfoldable pub right : MarkedLog → Bool
+right l =
+    ownersFit (l .system .machines) (l .system .homes) && judged (l .system) (l .events) (l .verdict)
+
+unfoldable pub allRight : List MarkedLog → Bool
+allRight [] = true
+allRight (l ∷ ls) = right l && allRight ls
+
+each : (ls : List MarkedLog) → T (allRight ls) → (l : MarkedLog) → List·Memᴰ l ls → T (right l)
+unfolding allRight
+each (a ∷ ls) t l (List·Memᴰ·head e) = rw e (and-l (right a) (allRight ls) t)
+each (a ∷ ls) t l (List·Memᴰ·tail m) = each ls (and-r (right a) (allRight ls) t) l m
+
+-- The whole test, computed.
+all-right : T (allRight logs)
+unfolding
+    logs log three persistent volatile
+    allRight right ownersFit judged decide everyBelow good someSilent someMoved
+    isMachine isLocation owner initial crashes clears named allNamed has insert remove
+    concerns eventAt enabledAt moved effect possibleAt nextAt startAt
+all-right = tt
+
+-- Each marked log has a well-formed system and its verdict.
+pub marked-logs : (l : MarkedLog) → List·Memᴰ l logs
+    → WellFormed (l .system) × Verdict (l .system) (l .events) (l .verdict)
+unfolding right
+marked-logs l m =
+    let fit = ownersFit (l .system .machines) (l .system .homes) in
+    let verdict = judged (l .system) (l .events) (l .verdict) in
+    let t = each logs all-right l m in
+    let w = owners-fit (l .system) (and-l fit verdict t) in
+    (w, judged-correct (l .system) w (l .events) (l .verdict) (and-r fit verdict t))

@@ -1,0 +1,82 @@
+-- The theorems of CXL0, over the definitions of `Cxl0` and `Schedule`, each proved by citing the file that does the
+-- work. `WellFormed sys` says that each location's owner is a machine of the system.
+use Prim.Native.Nat.{ℕ, _+_, _*_, _≤_}
+use mathlib.Core.Path.{_≡_}
+use mathlib.Core.Logic.{_≢_, _⊎_, _↔_}
+use mathlib.Core.List.{List, List·Memᴰ, map}
+use mathlib.Core.Option.{some}
+use lib.Dec.{T}
+use lib.ListN.{length, take}
+use Rattle.model.specs.Cxl0.{Machine, Location, Value, Topology, WellFormed, isLocation, owner, start}
+use Rattle.model.specs.Cxl0.{Event, Action, event, allNamed, Run, HasRun, after, events, silents}
+use Rattle.model.specs.Cxl0.{count, isStore, isLoad}
+use Rattle.model.specs.Schedule.{weave, schedule}
+use Rattle.model.specs.OneLocation.{Local, startAt, runsAt, HasRunAt, Moves, Silently}
+use Rattle.model.specs.MarkedLogs.{MarkedLog, Verdict, logs}
+use Rattle.model.proofs.CopiesAgree
+use Rattle.model.proofs.Bound
+use Rattle.model.proofs.Split
+use Rattle.model.proofs.SilentSteps
+use Rattle.model.proofs.Decision
+use Rattle.model.proofs.Prefixes
+use Rattle.model.proofs.Weaving
+use Rattle.model.proofs.MarkedLogs as marked
+
+-- 1. Copies of one location always agree in value, in every state that a run reaches.
+pub copies-agree : (sys : Topology) → WellFormed sys → (acts : List Action) → Run sys acts
+    → (i j : Machine) (x : Location) (u v : Value)
+    → after sys acts (start sys) .cache i x ≡ some u → after sys acts (start sys) .cache j x ≡ some v → u ≡ v
+copies-agree = CopiesAgree.copies-agree
+
+-- 2. In every run the silent steps number at most twice the stores and once the loads.
+pub bound : (sys : Topology) → WellFormed sys → (acts : List Action) → Run sys acts
+    → length (silents acts) ≤ 2 * count isStore (events acts) + count isLoad (events acts)
+bound = Bound.bound
+
+-- So a run of at most 128 events has at most 256 of them.
+pub bound-256 : (sys : Topology) → WellFormed sys → (acts : List Action) → Run sys acts
+    → length (events acts) ≤ 128 → length (silents acts) ≤ 256
+bound-256 = Bound.bound-256
+
+-- 3. Split by location. A list of actions is a run of the whole system exactly when every action names machines and
+-- locations of the system and the list runs at every location.
+pub split-run : (sys : Topology) → WellFormed sys → (acts : List Action)
+    → Run sys acts
+    ↔ (T (allNamed sys acts) × ((x : Location) → T (isLocation sys x) → T (runsAt sys x acts (startAt sys x))))
+split-run = Split.split-run
+
+-- A list of events has a run exactly when every event names machines and locations of the system and every location
+-- has a run of the list with silent steps of its own.
+pub split : (sys : Topology) → WellFormed sys → (es : List Event)
+    → HasRun sys es
+    ↔ (T (allNamed sys (map event es))
+    × ((x : Location) → T (isLocation sys x) → HasRunAt sys x es (startAt sys x)))
+split = Split.split
+
+-- 4. Silent steps at one location: the copies' value stays, and either there were only moves to the owner, or the
+-- copies were written back and are gone.
+pub normal-form : (sys : Topology) (x : Location) (s t : Local) → 1 ≤ owner sys x
+    → Silently sys x s t
+    ↔ ((t .copy ≡ s .copy)
+    × (((t .memory ≡ s .memory) × Moves (owner sys x) (s .code) (t .code))
+    ⊎ ((s .code ≢ 0) × (t .code ≡ 0) × (t .memory ≡ s .copy))))
+normal-form = SilentSteps.normal-form
+
+-- 5. A function decides whether a list of events has a run.
+pub decide-correct : (sys : Topology) → WellFormed sys → (es : List Event)
+    → T (Decision.decide sys es) ↔ HasRun sys es
+decide-correct = Decision.decide-correct
+
+-- Having a run is closed under prefixes.
+pub has-run-prefix : (sys : Topology) (es : List Event) (d : ℕ) → HasRun sys es → HasRun sys (take d es)
+has-run-prefix = Prefixes.has-run-prefix
+
+-- 6. Weaving the events of a run with the schedule that came from it gives the run back.
+pub weave-run : (sys : Topology) (acts : List Action) → Run sys acts
+    → weave (events acts) (schedule acts) ≡ acts
+weave-run = Weaving.weave-run
+
+-- The fourteen marked logs have the verdicts that document 01 gives them.
+pub marked-logs : (l : MarkedLog) → List·Memᴰ l logs
+    → WellFormed (l .system) × Verdict (l .system) (l .events) (l .verdict)
+marked-logs = marked.marked-logs
