@@ -1,3 +1,4 @@
+pub mod Shortcuts
 pub mod Tests
 pub mod Machines
 pub mod Sharers

@@ -1,0 +1,55 @@
+-- For each false shortcut of document 01 that concerns the model, a list of actions that tells it from CXL0: the list is
+-- a run, or is none, by computation from the definitions alone.
+use mathlib.Core.Bool.{Bool, true, false, not, _&&_}
+use mathlib.Core.List.{List, [], _∷_}
+use lib.Dec.{T}
+use Rattle.model.specs.Cxl0.{isMachine, isLocation, owner, initial, start, someMachine, everyMachine, cached}
+use Rattle.model.specs.Cxl0.{LStore, MStore, Load, LFlush, Crash, Propagate, WriteBack}
+use Rattle.model.specs.Cxl0.{Topology, Action, event, silent, crashes, clears, named, enabled, next}
+use Rattle.model.specs.Cxl0.{possible, runs}
+use Rattle.model.specs.MarkedLogs.{three, persistent, volatile, L0}
+
+pub record Case : Type 0 where
+  pub system : Topology
+  pub actions : List Action
+  pub is-run : Bool
+
+unfoldable pub case : Topology → List Action → Bool → Case
+case sys acts b = record { system = sys; actions = acts; is-run = b }
+
+unfoldable pub cases : List Case
+cases =
+    -- Flushes that do the write-back themselves: marked log 4 is lost. The copy goes to machine 2, and is lost there.
+    case (persistent (2 ∷ []))
+    (event (LStore 1 L0 1) ∷ silent (Propagate 1 L0) ∷ event (LFlush 1 L0) ∷ event (Crash 2)
+    ∷ event (Load 1 L0 0) ∷ [])
+    true
+    -- Copies that stay put until a flush needs them gone: marked log 14 is lost.
+    ∷ case (persistent (2 ∷ []))
+    (event (LStore 1 L0 1) ∷ silent (Propagate 1 L0) ∷ event (Crash 1) ∷ event (Load 2 L0 1) ∷ [])
+    true
+    -- A load from memory that leaves a copy: it would outlive the memory that it came from.
+    ∷ case (volatile (2 ∷ []))
+    (event (MStore 1 L0 1) ∷ event (Load 1 L0 1) ∷ event (Crash 2) ∷ event (Load 1 L0 1) ∷ [])
+    false
+    -- A write-back that clears only the owner's copy: marked log 13 becomes allowed.
+    ∷ case (volatile (2 ∷ []))
+    (event (LStore 1 L0 1) ∷ event (Load 2 L0 1) ∷ silent (WriteBack L0) ∷ event (LFlush 2 L0) ∷ event (Crash 2)
+    ∷ event (Load 1 L0 1) ∷ [])
+    false
+    ∷ []
+
+unfoldable pub as-said : Bool → Bool → Bool
+as-said true b = b
+as-said false b = not b
+
+unfoldable pub told : List Case → Bool
+told [] = true
+told (c ∷ cs) = as-said (c .is-run) (runs (c .system) (c .actions) (start (c .system))) && told cs
+
+-- The model tells each of the shortcuts from itself.
+pub shortcuts-told : T (told cases)
+unfolding
+    told as-said cases case three persistent volatile isMachine isLocation owner initial start someMachine
+    everyMachine cached crashes clears named enabled next possible runs
+shortcuts-told = tt
