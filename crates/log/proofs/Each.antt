@@ -1,0 +1,33 @@
+-- Laws of `Each`, and lists of bytes.
+use Prim.Native.Nat.{ℕ, zero, suc, _<_}
+use native.Mathlib.Nat.{le-of-suc-le-suc, not-suc-le-zero}
+use mathlib.Core.List.{List, [], _∷_, _++_}
+use lib.ListN.{length, getD, take}
+use Rattle.log.specs.Records.{Each}
+
+module _ {A : Type 0} (P : A → Type 0) where
+  pub each-at : (l : List A) → Each P l → (i : ℕ) (d : A) → i < length l → P (getD l i d)
+  each-at [] f i d h = absurd (not-suc-le-zero h)
+  each-at (a ∷ l) f zero d h = f .0
+  each-at (a ∷ l) f (suc i) d h = each-at l (f .1) i d (le-of-suc-le-suc h)
+
+  pub each-take : (n : ℕ) (l : List A) → Each P l → Each P (take n l)
+  each-take zero l f = tt
+  each-take (suc n) [] f = tt
+  each-take (suc n) (a ∷ l) f = (f .0, each-take n l (f .1))
+
+  pub each-append : (l m : List A) → Each P l → Each P m → Each P (l ++ m)
+  each-append [] m f g = g
+  each-append (a ∷ l) m f g = (f .0, each-append l m (f .1) g)
+
+  pub each-map : (Q : A → Type 0) → ((a : A) → P a → Q a) → (l : List A) → Each P l → Each Q l
+  each-map Q g [] f = tt
+  each-map Q g (a ∷ l) f = (g a (f .0), each-map Q g l (f .1))
+
+-- Every element is below 256, as in the contents of a `&[u8]`.
+abbrev pub Bytes : List ℕ → Type 0
+Bytes = Each (λ b. b < 256)
+
+pub bytes-by-index : (s : List ℕ) → ((i : ℕ) → getD s i 0 < 256) → Bytes s
+bytes-by-index [] f = tt
+bytes-by-index (b ∷ s) f = (f 0, bytes-by-index s (λ i. f (suc i)))
