@@ -97,7 +97,7 @@ kept {ℓ κ} : {A : Type ℓ} {B : Type κ} (part : A → B) (b : Bool) (s t : 
 kept part true s t e = e tt
 kept part false s t e = refl
 
-has-insert-of : (i j : Machine) (c : ℕ) → 1 ≤ i → has j (insert i c) ≡ (eqb j i || has j c)
+pub has-insert-of : (i j : Machine) (c : ℕ) → 1 ≤ i → has j (insert i c) ≡ (eqb j i || has j c)
 has-insert-of zero j c l = absurd (not-suc-le-zero l)
 has-insert-of (suc i) j c l = has-insert i j c
 

@@ -38,7 +38,7 @@ someSilent sys x test s =
 -- ---- moves
 
 -- The order of two moves does not matter.
-swap : (n k i j c : ℕ) → 1 ≤ k → k ≤ n → c < 2 ^ n → moved k i (moved k j c) ≡ moved k j (moved k i c)
+pub swap : (n k i j c : ℕ) → 1 ≤ k → k ≤ n → c < 2 ^ n → moved k i (moved k j c) ≡ moved k j (moved k i c)
 swap n k i j c l u h =
     same-code n (moved k i (moved k j c)) (moved k j (moved k i c))
     (moved-bound n k i (moved k j c) l u (moved-bound n k j c l u h))
@@ -56,7 +56,7 @@ swap n k i j c l u h =
     go false false false e = refl
 
 -- After machine i's move, machine j may move if it might before and is not i.
-movable-moved : (k i j c : ℕ) → 1 ≤ k → movable k j (moved k i c) ≡ (not (eqb j i) && movable k j c)
+pub movable-moved : (k i j c : ℕ) → 1 ≤ k → movable k j (moved k i c) ≡ (not (eqb j i) && movable k j c)
 movable-moved k i j c l = rw (has-moved k i j c l) (go (eqb j k) (eqb j i) (has j c))
   where
     go : (a b e : Bool) → (not a && (a || not b && e)) ≡ (not b && (not a && e))

@@ -1,0 +1,5 @@
+pub mod Sets
+pub mod Constants
+pub mod Codes
+pub mod Shifts
+pub mod OnePass
