@@ -17,4 +17,7 @@ pub mod Prefixes
 pub mod Owners
 pub mod MarkedLogs
 pub mod Weaving
+pub mod Bits
+pub mod Limits
+pub mod Settled
 pub mod Theorems

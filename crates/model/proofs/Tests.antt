@@ -50,3 +50,7 @@ ne-test a b t e = T-not (eqb a b) t (eq→eqb e)
 
 pub ne→test : (a b : ℕ) → a ≢ b → T (not (eqb a b))
 ne→test a b f = by-test (eqb a b) (λ t. absurd (f (eqb→eq a b t))) (λ t. t)
+
+-- The answer to what a callee requires that requires nothing.
+pub nothing {ℓ κ} : {A : Type ℓ} {B : Type κ} → A → B → Unit {0}
+nothing a b = tt

@@ -2,10 +2,12 @@
 use Prim.Native.Nat.{ℕ, _%_, _^_}
 use mathlib.Core.Bool.{Bool, true, false, cond, not, _&&_}
 use mathlib.Core.List.{List, [], _∷_, map}
-use mathlib.Core.Option.{Option, none, some}
 use lib.Dec.{leb}
-use lib.ListN.{getD, take}
+use lib.ListN.{getD, take, set}
+use Rattle.model.specs.Cxl0
 use Rattle.model.specs.Cxl0.{Location, Home, Topology, State, Action, possible, next}
+use Rattle.model.specs.Operations.{isOperation, eventOf}
+use Rattle.model.specs.declared.Event as event
 use Rattle.model.specs.Sharers.{has}
 use Rattle.model.specs.OneLocation.{Local, expand}
 use Rattle.model.specs.declared.Machine as machine
@@ -40,8 +42,12 @@ withinLimits t =
 unfoldable pub localOf : ℕ → entry.Entry → Local
 localOf n e = record { code = e .sharers % 2 ^ n; copy = e .copy; memory = e .memory }
 
+-- The entry of a location; one past the end has no copies and 0 in memory.
+abbrev pub emptyEntry : entry.Entry
+emptyEntry = record { sharers = 0; copy = 0; memory = 0 }
+
 unfoldable pub entryAt : state.State → Location → entry.Entry
-entryAt s x = getD (s .entries) x (record { sharers = 0; copy = 0; memory = 0 })
+entryAt s x = getD (s .entries) x emptyEntry
 
 unfoldable pub stateOf : topology.Topology → state.State → State
 stateOf t s = expand (λ x. localOf (t .machines) (entryAt s x))
@@ -59,3 +65,15 @@ attempt t a s =
     cond (withinLimits t && possible (topologyOf t) a s)
     (record { possible = true; state = next (topologyOf t) a s })
     (record { possible = false; state = s })
+
+-- What is asked of an event by its operation number. A number that is no operation's is not possible.
+unfoldable pub attemptEvent : topology.Topology → event.Event → State → Outcome
+attemptEvent t e s =
+    cond (isOperation (e .operation))
+    (attempt t (Cxl0.event (eventOf (e .operation) (e .machine .0) (e .location .0) (e .value))) s)
+    (record { possible = false; state = s })
+
+-- The answer to an action at location x: if it is possible, the entry of x is replaced.
+abbrev pub settle : Bool → Location → entry.Entry → state.State → stepped.Stepped
+settle p x e s =
+    record { possible = p; state = cond p (record { entries = set (s .entries) x e }) s }

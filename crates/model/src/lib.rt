@@ -2,6 +2,15 @@
 // machines and 32 locations, with a method for each event and each silent step: each says whether that action is
 // possible and hands back the state after it, or the same state. Their contracts are equations with the definitions
 // of specs/Cxl0.antt.
+mod codes;
+mod entries;
+mod stepping;
+mod topologies;
+
+// The limits: at most so many machines, and so many locations.
+pub const MACHINES: u8 = 6;
+
+pub const LOCATIONS: usize = 32;
 
 // A machine, numbered from 1.
 pub struct Machine(pub u8);
@@ -20,7 +29,7 @@ pub struct Topology {
     pub machines: u8,
     pub persistent: u8,
     pub locations: u8,
-    pub homes: [Home; 32],
+    pub homes: [Home; LOCATIONS],
 }
 
 // What is known of one location: bit i - 1 of `sharers` is set if machine i's cache holds a copy, all copies have the
@@ -32,7 +41,7 @@ pub struct Entry {
 }
 
 pub struct State {
-    pub entries: [Entry; 32],
+    pub entries: [Entry; LOCATIONS],
 }
 
 // The answer to an action: whether it was possible, and the state after it or, if it was not, the state as it was.
@@ -47,28 +56,4 @@ pub struct Event {
     pub machine: Machine,
     pub location: Location,
     pub value: u32,
-}
-
-pub fn entry_of(s: State, x: Location) -> Entry {
-    let at = x.0 as usize;
-    if at < 32 {
-        let e = s.entries[at];
-        e
-    } else {
-        Entry {
-            sharers: 0,
-            copy: 0,
-            memory: 0,
-        }
-    }
-}
-
-impl State {
-    pub fn put(mut self, x: Location, e: Entry) -> State {
-        let at = x.0 as usize;
-        if at < 32 {
-            self.entries[at] = e;
-        }
-        self
-    }
 }

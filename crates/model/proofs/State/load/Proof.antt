@@ -1,0 +1,97 @@
+-- `load` meets its contract: from memory it leaves no copy, and from a copy it leaves one with machine i.
+use Prim.Native.Nat.{ℕ, _%_}
+use mathlib.Core.Path.{_≡_, refl, sym, ap, _∙_}
+use mathlib.Core.Bool.{cond}
+use lib.Dec.{eqb}
+use lib.ListN.{length}
+use borrow.Author.Tests.{eq-eqb, ne-eqb}
+use Rattle.model.specs.Cxl0.{Machine, Location, Value, Topology, event, Load, named}
+use Rattle.model.specs.Sharers.{insert}
+use Rattle.model.specs.OneLocation.{Local, concerns, eventAt, enabledAt, effect}
+use Rattle.model.specs.Meaning.{topologyOf, localOf}
+use Rattle.model.proofs.Tests.{nothing}
+use Rattle.model.proofs.Bits.{insert-byte}
+use Rattle.model.proofs.Limits.{mapped}
+use Rattle.model.proofs.Settled.{admits, by-machine, settled-right, settled-bytes}
+use Rattle.model.proofs.State.load.Statement.{statement}
+use Rattle.model.proofs.State.load.Tie as tie
+
+module _ (sys : Topology) (x : Location) (i : Machine) (v : Value) (s : Local) where
+  -- Where no cache holds x, the load asks for v in memory and changes nothing.
+  memory-test : s .code ≡ 0 → eqb (s .memory) v ≡ enabledAt sys x (event (Load i x v)) s
+  unfolding enabledAt
+  memory-test z = rw (eq-eqb _ _ z)
+
+  memory-effect : s .code ≡ 0 → s ≡ effect sys x (event (Load i x v)) s
+  unfolding effect
+  memory-effect z =
+      let e : s .code ≡ cond (eqb (s .code) 0) 0 (insert i (s .code)) = rw (eq-eqb _ _ z) z in
+      λ j. record { code = e j; copy = s .copy; memory = s .memory }
+
+  -- Where some cache holds x, it asks for v in the copies, and i holds one more.
+  copy-test : (s .code ≡ 0 → ⊥) → eqb (s .copy) v ≡ enabledAt sys x (event (Load i x v)) s
+  unfolding enabledAt
+  copy-test z = rw (ne-eqb _ _ z)
+
+  copy-code : (s .code ≡ 0 → ⊥)
+      → insert i (s .code) % 256 ≡ effect sys x (event (Load i x v)) s .code % 256
+  unfolding effect
+  copy-code z = rw (ne-eqb _ _ z)
+
+room : (c : tie.Start) → length (c .args .self .entries) ≡ 32
+room c = search mapped
+
+returns : tie.Need-returns
+unfolding admits named concerns eventAt localOf
+returns c =
+    let h = c .before .before .before .before .before in
+    let t = h .args .t in
+    let i = h .args .i .0 in
+    let x = h .args .x .0 in
+    let a = event (Load i x (h .args .v)) in
+    let s = localOf (t .machines) (c .before .before .before .before .entry .result) in
+    let z = sym (c .before .before .before .code .ensures) ∙ c .before .before .if1 .taken in
+    settled-right t (h .args .self) a x (by-machine t i x a (λ y. refl) refl) (room h)
+    (c .before .before .before .before .entry .ensures)
+    (c .before .names .ensures)
+    (memory-test (topologyOf t) x i (h .args .v) s z)
+    _
+    (λ _. memory-effect (topologyOf t) x i (h .args .v) s z)
+    (c .settled .ensures)
+
+returns-2 : tie.Need-returns-2
+unfolding admits named concerns eventAt effect localOf
+returns-2 c =
+    let h = c .before .before .before .before .before .before in
+    let t = h .args .t in
+    let i = h .args .i .0 in
+    let x = h .args .x .0 in
+    let a = event (Load i x (h .args .v)) in
+    let s = localOf (t .machines) (c .before .before .before .before .before .entry .result) in
+    let d = c .before .before .before .before .code in
+    let z : s .code ≡ 0 → ⊥ = λ e. c .before .before .before .if1 .left (d .ensures ∙ e) in
+    settled-bytes t (h .args .self) a x (by-machine t i x a (λ y. refl) refl) (room h)
+    (c .before .before .before .before .before .entry .ensures)
+    (c .before .names2 .ensures)
+    (copy-test (topologyOf t) x i (h .args .v) s z)
+    _
+    (insert-byte i (d .result) _ (c .before .before .bit .ensures) (d .ok)
+    ∙ ap (λ (b : ℕ). insert i b % 256) (d .ensures)
+    ∙ copy-code (topologyOf t) x i (h .args .v) s z)
+    refl
+    refl
+    (c .settled2 .ensures)
+
+pub load-spec : {M : Type 1} → statement M
+load-spec =
+    tie.close
+    (tie.spec
+    nothing
+    nothing
+    nothing
+    nothing
+    returns
+    nothing
+    nothing
+    nothing
+    returns-2)

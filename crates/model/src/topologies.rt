@@ -1,0 +1,78 @@
+// What a topology says: whether it is within the limits, and who owns what.
+ghost use mathlib.Core.Path.{_≡_};
+ghost use mathlib.Core.Bool.{_&&_};
+ghost use Prim.Native.Nat.{_≤_};
+ghost use Rattle.model.specs.Cxl0.{isMachine, isLocation, owner};
+ghost use Rattle.model.specs.Meaning.{topologyOf, ownersFit, withinLimits};
+use super::LOCATIONS;
+use super::Location;
+use super::MACHINES;
+use super::Machine;
+use super::Topology;
+
+impl Topology {
+    // Each location is owned by one of the machines.
+    fn owners_fit(self) -> bool
+        requires { ⌜ self .locations ≤ 32 ⌝ }
+        ensures { λ r. ⌜ r ≡ ownersFit (self .machines) (topologyOf self .homes) ⌝ }
+    {
+        let count = self.locations as usize;
+        let mut at: usize = 0;
+        while at < count {
+            let h = self.homes[at];
+            let k = h.owner;
+            if !self.is_machine(k) {
+                return false;
+            }
+            at += 1;
+        }
+        true
+    }
+
+    // 1 to 6 machines, at most 32 locations, each owned by one of the machines.
+    pub fn within_limits(self) -> bool
+        ensures { λ r. ⌜ r ≡ withinLimits self ⌝ }
+    {
+        let n = self.machines;
+        let count = self.locations as usize;
+        let few = (1 <= n) & (n <= MACHINES) & (count <= LOCATIONS);
+        if few { self.owners_fit() } else { false }
+    }
+
+    pub(crate) fn is_machine(self, i: Machine) -> bool
+        ensures { λ r. ⌜ r ≡ isMachine (topologyOf self) (i .0) ⌝ }
+    {
+        let k = i.0;
+        let n = self.machines;
+        (1 <= k) & (k <= n)
+    }
+
+    pub(crate) fn is_location(self, x: Location) -> bool
+        ensures { λ r. ⌜ r ≡ isLocation (topologyOf self) (x .0) ⌝ }
+    {
+        let at = x.0 as usize;
+        let count = self.locations as usize;
+        (at < count) & (at < LOCATIONS)
+    }
+
+    // The owner of a location, or machine 0, which is none.
+    pub(crate) fn owner(self, x: Location) -> Machine
+        ensures { λ r. ⌜ r .0 ≡ owner (topologyOf self) (x .0) ⌝ }
+    {
+        if self.is_location(x) {
+            let at = x.0 as usize;
+            let h = self.homes[at];
+            h.owner
+        } else {
+            Machine(0)
+        }
+    }
+
+    // Within the limits, with this machine and this location.
+    pub(crate) fn names(self, i: Machine, x: Location) -> bool
+        ensures { λ r. ⌜ r ≡ (withinLimits self
+            && (isMachine (topologyOf self) (i .0) && isLocation (topologyOf self) (x .0))) ⌝ }
+    {
+        self.within_limits() & (self.is_machine(i) & self.is_location(x))
+    }
+}
