@@ -1,11 +1,11 @@
--- The codes of sets of machines by operations on bits. The bit of machine i is the code of the set of i alone.
-use Prim.Native.Nat.{ℕ, zero, suc, _+_, _-_, _*_, _/_, _%_, _^_, _≤_, _<_, min, max}
+-- The codes of sets of machines, by operations on bits. Machine i's bit is the code of the set of i alone.
+use Prim.Native.Nat.{ℕ, zero, suc, _+_, _-_, _*_, _/_, _%_, _^_, _≤_, _<_, min}
 use native.Mathlib.Numerals.{sub-one}
 use native.Mathlib.Nat.{one-mul, pow-suc, le-of-suc-le-suc, lt-of-le-of-lt, lt-of-lt-of-le, mod-eq-of-lt}
 use native.Mathlib.Omega.{arith}
 use mathlib.Core.Path.{_≡_, refl, sym, ap, _∙_}
-use mathlib.Core.Bool.{Bool, true, false, not, Bool·not-not}
-use lib.Dec.{T, eqb, ltb, eqb→eq, ltb→lt, nltb→le}
+use mathlib.Core.Bool.{not, Bool·not-not}
+use lib.Dec.{eqb, ltb, eqb→eq, ltb→lt, nltb→le}
 use lib.Bits.{bitAnd, bitOr, and-step, or-step, and-zero-r, or-zero-r, and-mask, and-le-l, and-mod, or-mod}
 use lib.Ieee.Fits.{eq→eqb}
 use lib.Pow.{pow-pos, pow-mono, pow-lt, pow-add}

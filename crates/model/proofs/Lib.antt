@@ -20,4 +20,5 @@ pub mod Weaving
 pub mod Bits
 pub mod Limits
 pub mod Settled
+pub mod Crashes
 pub mod Theorems

@@ -3,7 +3,7 @@ use Prim.Native.Nat.{ℕ, zero, suc, _+_, _≤_, _<_, min}
 use native.Mathlib.Numerals.{add-one}
 use native.Mathlib.Nat.{le-of-suc-le-suc, not-suc-le-zero}
 use native.Mathlib.Omega.{arith}
-use mathlib.Core.Path.{_≡_, refl, sym, ap, _∙_}
+use mathlib.Core.Path.{_≡_, sym, ap, _∙_}
 use mathlib.Core.Bool.{Bool, true, false, _&&_}
 use mathlib.Core.List.{List, [], _∷_, map}
 use borrow.Author.Tests.{ltb-false}
@@ -11,7 +11,7 @@ use lib.Dec.{T, leb, ltb, leb→le, ltb→lt, lt→ltb}
 use lib.ListN.{length, getD, take, drop, drop-of-length-le, length-take, length-map}
 use lib.ListN.{List·getD-map, List·getD-eq-default}
 use lib.Seq.{getD-take, drop-cons}
-use Rattle.model.specs.Cxl0.{Machine, Location, Home, isMachine, isLocation, owner, WellFormed}
+use Rattle.model.specs.Cxl0.{Location, Home, isMachine, isLocation, owner, WellFormed}
 use Rattle.model.specs.Meaning.{homeOf, topologyOf, ownersFit, withinLimits}
 use Rattle.model.specs.declared.Home as home
 use Rattle.model.specs.declared.Topology as topology

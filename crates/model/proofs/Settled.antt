@@ -2,11 +2,11 @@
 use Prim.Native.Nat.{ℕ, _<_, _≤_, _%_, _^_}
 use native.Mathlib.Nat.{mod-lt, mod-eq-of-lt, lt-of-lt-of-le}
 use native.Mathlib.Omega.{arith}
-use mathlib.Core.Path.{_≡_, refl, sym, ap, ap₂, _∙_, subst, fun-ext}
+use mathlib.Core.Path.{_≡_, sym, ap, ap₂, _∙_, subst, fun-ext}
 use mathlib.Core.Bool.{Bool, true, false, cond, _&&_, and-assoc}
-use lib.Dec.{T, eqb, eqb→eq, eqb-refl, ltb→lt}
+use lib.Dec.{T, eqb, eqb→eq, eqb-refl}
 use lib.Pow.{pow-pos, pow-mono}
-use lib.ListN.{length, getD, set}
+use lib.ListN.{length, set}
 use lib.Seq.{getD-set-same, getD-set-other}
 use Rattle.model.specs.Cxl0.{Machine, Location, isMachine, isLocation}
 use Rattle.model.specs.Cxl0.{Action, named, enabled, possible, next}
@@ -17,8 +17,8 @@ use Rattle.model.specs.declared.Topology as topology
 use Rattle.model.specs.declared.Entry as entry
 use Rattle.model.specs.declared.State as state
 use Rattle.model.specs.declared.Stepped as stepped
-use Rattle.model.proofs.Tests.{and-l, and-r, and-i, by-test, true→T, T→true, not→false, ne-test}
-use Rattle.model.proofs.Limits.{listed-below, Within, within}
+use Rattle.model.proofs.Tests.{and-l, and-r, by-test, T→true, not→false, ne-test}
+use Rattle.model.proofs.Limits.{listed-below, within}
 use Rattle.model.proofs.Expand.{InRange, enabled-expand, next-expand, nextAt-bound}
 
 -- The topology is within the limits and has the machines and the location that an action names.
@@ -128,15 +128,16 @@ module _ (t : topology.Topology) (s : state.State) (a : Action) (x : Location) (
       ∙ sym (next-expand sys (forms t s) (w .well-formed) (in-range t s) a p)
 
   -- Whether the action is possible shows at x.
-  can : (admits t a && asked t a x (entryAt s x)) ≡ (withinLimits t && possible (topologyOf t) a (stateOf t s))
+  can : (admits t a && asked t a x (entryAt s x))
+      ≡ (withinLimits t && possible (topologyOf t) a (stateOf t s))
   unfolding admits possible stateOf
   can =
       let c : T (concerns x a) = rw (here .alone x) (eqb-refl x) in
       rw (enabled-expand (topologyOf t) (forms t s) (in-range t s) a x c)
       (and-assoc (withinLimits t) (named (topologyOf t) a) (asked t a x (entryAt s x)))
 
-  -- A method of one location is right, if it says whether the action is admitted and whether it is enabled in the
-  -- entry e of x, and makes of e what the action makes of it.
+  -- A method's answer is right, if the method says whether the action is admitted, and whether it is enabled
+  -- in the entry e of x, and makes of e what the action makes of it.
   pub settled-right : length (s .entries) ≡ 32 → {e : entry.Entry} → e ≡ entryAt s x
       → {b : Bool} → b ≡ admits t a
       → {d : Bool} → d ≡ asked t a x e

@@ -1,9 +1,9 @@
-// The state of a whole system and its steps: a method for each event and each silent step, in the words of specs/Cxl0.antt.
+// The steps of a whole system, one method for each event and each silent step.
 ghost use mathlib.Core.Path.{_≡_};
 ghost use mathlib.Core.Bool.{false, _&&_};
 ghost use Prim.Native.Nat.{ℕ};
-ghost use Rattle.model.specs.Cxl0.{start, event, silent};
-ghost use Rattle.model.specs.Cxl0.{LStore, RStore, MStore, Load, LFlush, RFlush, Crash, Propagate, WriteBack};
+ghost use Rattle.model.specs.Cxl0.{start, event, LStore, RStore, MStore, Load, LFlush, RFlush, Crash};
+ghost use Rattle.model.specs.Cxl0.{silent, Propagate, WriteBack};
 ghost use Rattle.model.specs.OneLocation.{effect};
 ghost use Rattle.model.specs.Meaning.{topologyOf, localOf, entryAt, stateOf, settle};
 ghost use Rattle.model.specs.Meaning.{outcomeOf, attempt, attemptEvent};
@@ -19,7 +19,7 @@ use super::codes::bit;
 use super::entries::EMPTY;
 
 impl State {
-    // At the start, whatever the topology, no cache holds anything and memories hold 0.
+    // At the start no cache holds anything and memories hold 0, whatever the topology.
     pub fn start(t: Topology) -> State
         ensures { λ r. ⌜ stateOf t r ≡ start (topologyOf t) ⌝ }
     {
@@ -40,8 +40,8 @@ impl State {
         }
     }
 
-    // The answer to an action at location x that the topology admits or not, and that x's entry enables or not: if both,
-    // `after` is x's entry after it.
+    // The answer to an action at location x: it is possible if the topology admits it and x's entry enables
+    // it, and `after` is x's entry after it.
     fn settled(mut self, admitted: bool, enabled: bool, x: Location, after: Entry) -> Stepped
         ensures { λ r. ⌜ r ≡ settle (admitted && enabled) (x .0) after self ⌝ }
     {
@@ -101,37 +101,40 @@ impl State {
         self.settled(t.names(i, x), true, x, after)
     }
 
-    // If no cache holds x, memory must hold v, and nothing changes; if one does, it must hold v, and i's cache gets v too.
+    // If no cache holds x, memory must hold v, and nothing changes. If one does, it must hold v, and i's
+    // cache gets v too.
     pub fn load(self, t: Topology, i: Machine, x: Location, v: u32) -> Stepped
         ensures { λ r. ⌜ outcomeOf t r ≡ attempt t (event (Load (i .0) (x .0) v)) (stateOf t self) ⌝ }
         ensures kept { λ r. ⌜ (r .possible ≡ false → r .state ≡ self) ⌝ }
     {
         let e = self.entry(x);
         let c = e.code(t);
+        let mine = bit(i);
         let copy = e.copy;
         let memory = e.memory;
         if c == 0 {
             return self.settled(t.names(i, x), memory == v, x, e);
         }
         let after = Entry {
-            sharers: c | bit(i),
+            sharers: c | mine,
             copy,
             memory,
         };
         self.settled(t.names(i, x), copy == v, x, after)
     }
 
-    // i's cache holds nothing for x.
+    // Possible if i's cache holds nothing for x.
     pub fn l_flush(self, t: Topology, i: Machine, x: Location) -> Stepped
         ensures { λ r. ⌜ outcomeOf t r ≡ attempt t (event (LFlush (i .0) (x .0))) (stateOf t self) ⌝ }
         ensures kept { λ r. ⌜ (r .possible ≡ false → r .state ≡ self) ⌝ }
     {
         let e = self.entry(x);
         let c = e.code(t);
-        self.settled(t.names(i, x), c & bit(i) == 0, x, e)
+        let mine = bit(i);
+        self.settled(t.names(i, x), c & mine == 0, x, e)
     }
 
-    // No cache holds x.
+    // Possible if no cache holds x.
     pub fn r_flush(self, t: Topology, i: Machine, x: Location) -> Stepped
         ensures { λ r. ⌜ outcomeOf t r ≡ attempt t (event (RFlush (i .0) (x .0))) (stateOf t self) ⌝ }
         ensures kept { λ r. ⌜ (r .possible ≡ false → r .state ≡ self) ⌝ }
@@ -149,7 +152,9 @@ impl State {
         let mut at: usize = 0;
         while at < LOCATIONS {
             let e = self.entries[at];
-            self.entries[at] = e.crashed(t, i, Location(at as u8));
+            let n = at as u8;
+            let after = e.crashed(t, i, Location(n));
+            self.entries[at] = after;
             at += 1;
         }
         self
@@ -173,7 +178,7 @@ impl State {
         }
     }
 
-    // i is not the owner: i's cache loses x, and the owner's gets what i's held.
+    // i, which is not the owner, loses x, and the owner's cache gets the value that i's held.
     pub fn propagate(self, t: Topology, i: Machine, x: Location) -> Stepped
         ensures { λ r. ⌜ outcomeOf t r ≡ attempt t (silent (Propagate (i .0) (x .0))) (stateOf t self) ⌝ }
         ensures kept { λ r. ⌜ (r .possible ≡ false → r .state ≡ self) ⌝ }
@@ -181,16 +186,16 @@ impl State {
         let e = self.entry(x);
         let c = e.code(t);
         let k = t.owner(x);
-        let from = bit(i);
+        let mine = bit(i);
         let after = Entry {
-            sharers: c & !from | bit(k),
+            sharers: c & !mine | bit(k),
             copy: e.copy,
             memory: e.memory,
         };
-        self.settled(t.names(i, x), !i.is(k) & (c & from != 0), x, after)
+        self.settled(t.names(i, x), !i.is(k) & (c & mine != 0), x, after)
     }
 
-    // Memory gets what the owner's cache holds, and every cache loses x.
+    // Memory gets the value that the owner's cache holds, and every cache loses x.
     pub fn write_back(self, t: Topology, x: Location) -> Stepped
         ensures { λ r. ⌜ outcomeOf t r ≡ attempt t (silent (WriteBack (x .0))) (stateOf t self) ⌝ }
         ensures kept { λ r. ⌜ (r .possible ≡ false → r .state ≡ self) ⌝ }
@@ -203,12 +208,8 @@ impl State {
             copy: e.copy,
             memory: e.copy,
         };
-        self.settled(
-            t.within_limits() & t.is_location(x),
-            c & owners != 0,
-            x,
-            after,
-        )
+        let listed = t.within_limits() & t.is_location(x);
+        self.settled(listed, c & owners != 0, x, after)
     }
 
     // The step of a log's event, by its operation number.

@@ -28,8 +28,8 @@ returns c =
     let s = c .before .before .before .code in
     settled-right t (h .args .self) a x (by-machine t i x a (λ y. refl) refl) (room h)
     (c .before .before .before .before .entry .ensures)
-    (c .before .before .names .ensures)
-    (free-byte i (s .result) _ (c .before .bit .ensures) (s .ok)
+    (c .before .names .ensures)
+    (free-byte i (s .result) _ (c .before .before .bit .ensures) (s .ok)
     ∙ ap (λ (d : ℕ). not (has i d)) (s .ensures))
     _
     (λ _. refl)

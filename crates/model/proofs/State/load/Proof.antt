@@ -44,15 +44,15 @@ room c = search mapped
 returns : tie.Need-returns
 unfolding admits named concerns eventAt localOf
 returns c =
-    let h = c .before .before .before .before .before in
+    let h = c .before .before .before .before .before .before in
     let t = h .args .t in
     let i = h .args .i .0 in
     let x = h .args .x .0 in
     let a = event (Load i x (h .args .v)) in
-    let s = localOf (t .machines) (c .before .before .before .before .entry .result) in
-    let z = sym (c .before .before .before .code .ensures) ∙ c .before .before .if1 .taken in
+    let s = localOf (t .machines) (c .before .before .before .before .before .entry .result) in
+    let z = sym (c .before .before .before .before .code .ensures) ∙ c .before .before .if1 .taken in
     settled-right t (h .args .self) a x (by-machine t i x a (λ y. refl) refl) (room h)
-    (c .before .before .before .before .entry .ensures)
+    (c .before .before .before .before .before .entry .ensures)
     (c .before .names .ensures)
     (memory-test (topologyOf t) x i (h .args .v) s z)
     _
@@ -69,13 +69,13 @@ returns-2 c =
     let a = event (Load i x (h .args .v)) in
     let s = localOf (t .machines) (c .before .before .before .before .before .entry .result) in
     let d = c .before .before .before .before .code in
-    let z : s .code ≡ 0 → ⊥ = λ e. c .before .before .before .if1 .left (d .ensures ∙ e) in
+    let z : s .code ≡ 0 → ⊥ = λ e. c .before .before .if1 .left (d .ensures ∙ e) in
     settled-bytes t (h .args .self) a x (by-machine t i x a (λ y. refl) refl) (room h)
     (c .before .before .before .before .before .entry .ensures)
     (c .before .names2 .ensures)
     (copy-test (topologyOf t) x i (h .args .v) s z)
     _
-    (insert-byte i (d .result) _ (c .before .before .bit .ensures) (d .ok)
+    (insert-byte i (d .result) _ (c .before .before .before .bit .ensures) (d .ok)
     ∙ ap (λ (b : ℕ). insert i b % 256) (d .ensures)
     ∙ copy-code (topologyOf t) x i (h .args .v) s z)
     refl
@@ -90,8 +90,8 @@ load-spec =
     nothing
     nothing
     nothing
-    returns
     nothing
+    returns
     nothing
     nothing
     returns-2)

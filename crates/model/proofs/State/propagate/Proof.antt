@@ -30,15 +30,15 @@ returns c =
     let a = silent (Propagate i x) in
     let s = c .before .before .before .before .before .before .code in
     let k = c .before .before .before .before .before .owner in
-    let from = c .before .before .before .before .bit in
-    let rest = remove-byte i (s .result) (from .result) (from .ensures) (s .ok) ∙ ap (remove i) (s .ensures) in
+    let mine = c .before .before .before .before .bit in
+    let rest = remove-byte i (s .result) _ (mine .ensures) (s .ok) ∙ ap (remove i) (s .ensures) in
     let low = lt-of-le-of-lt (and-le-l (s .result) _) (s .ok) in
     settled-bytes t (h .args .self) a x (by-machine t i x a (λ y. refl) refl) (room h)
     (c .before .before .before .before .before .before .before .entry .ensures)
     (c .before .before .names .ensures)
     (ap₂ _&&_
     (ap not (c .before .is .ensures ∙ ap (eqb i) (k .ensures)))
-    (has-byte i (s .result) (from .result) (from .ensures) (s .ok) ∙ ap (has i) (s .ensures)))
+    (has-byte i (s .result) _ (mine .ensures) (s .ok) ∙ ap (has i) (s .ensures)))
     _
     (insert-byte (k .result .0) _ _ (c .before .before .before .bit2 .ensures) low
     ∙ ap₂ (λ (j d : ℕ). insert j d % 256) (k .ensures) rest)

@@ -1,6 +1,5 @@
 -- `settled` meets its contract: past the end of the entries there is nothing to replace.
-use mathlib.Core.Path.{_≡_, refl, sym, subst}
-use mathlib.Core.Bool.{true, false}
+use mathlib.Core.Path.{_≡_}
 use lib.ListN.{length}
 use lib.Seq.{set-out}
 use borrow.Author.Needs.{needs}
@@ -26,7 +25,8 @@ returns c = rw (c .before .if1 .taken)
 returns-2 : tie.Need-returns-2
 returns-2 c =
     let h = c .before .before .before in
-    rw (c .before .if1 .taken, set-out (h .args .t1 .entries) (h .args .x .0) (h .args .after) (rw (room h) (c .if2 .left)))
+    let past = set-out (h .args .t1 .entries) (h .args .x .0) (h .args .after) (rw (room h) (c .if2 .left)) in
+    rw (c .before .if1 .taken, past)
 
 returns-3 : tie.Need-returns-3
 returns-3 c = rw (c .if1 .left)

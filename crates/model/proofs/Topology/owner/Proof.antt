@@ -3,6 +3,7 @@ use Prim.Native.Nat.{_<_}
 use mathlib.Core.Path.{_≡_, sym, _∙_}
 use lib.ListN.{length}
 use borrow.Author.Needs.{needs}
+use Rattle.model.proofs.Tests.{nothing}
 use Rattle.model.proofs.Limits.{mapped, listed-e, owner-at, no-owner}
 use Rattle.model.proofs.Topology.owner.Statement.{statement}
 use Rattle.model.proofs.Topology.owner.Tie as tie
@@ -11,13 +12,10 @@ room : (c : tie.Start) → length (c .args .t1 .homes) ≡ 32
 room c = search mapped
 
 listed : (c : tie.Then1)
-    → (c .before .before .args .x .0 < c .before .before .args .t1 .locations) × (c .before .before .args .x .0 < 32)
+    → let h = c .before .before .args in (h .x .0 < h .t1 .locations) × (h .x .0 < 32)
 listed c =
     let h = c .before .before in
     listed-e (h .args .t1) (room h) (h .args .x .0) (sym (c .before .is-location .ensures) ∙ c .if1 .taken)
-
-is-location-requires : tie.Need-is-location-requires
-is-location-requires c κs = search needs
 
 cast-at : tie.Need-cast-at
 cast-at c = search needs
@@ -36,4 +34,4 @@ returns-2 c =
     no-owner (h .t1) (h .x .0) (sym (c .before .is-location .ensures) ∙ c .if1 .left)
 
 pub owner-spec : {M : Type 1} → statement M
-owner-spec = tie.close (tie.spec is-location-requires cast-at element-copy-out-h returns returns-2)
+owner-spec = tie.close (tie.spec nothing cast-at element-copy-out-h returns returns-2)

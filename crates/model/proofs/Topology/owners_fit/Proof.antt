@@ -1,18 +1,15 @@
 -- `owners_fit` meets its contract. The loop's invariant: the owners fit if those from `at` on fit.
-use Prim.Native.Nat.{ℕ, _+_, _-_}
+use Prim.Native.Nat.{_+_, _-_}
 use native.Mathlib.Omega.{arith}
 use mathlib.Core.Path.{_≡_, refl, sym, _∙_}
 use mathlib.Core.Bool.{Bool, _&&_, false, true}
-use borrow.Author.Needs.{needs}
 use borrow.Author.Tests.{not-true, not-false}
 use lib.ListN.{length, drop}
 use Rattle.model.specs.Meaning.{topologyOf, ownersFit}
+use Rattle.model.proofs.Tests.{nothing}
 use Rattle.model.proofs.Limits.{mapped, fit-end, fit-more}
 use Rattle.model.proofs.Topology.owners_fit.Statement.{statement}
 use Rattle.model.proofs.Topology.owners_fit.Tie as tie
-use Rattle.model.proofs.Topology.owners_fit.Reads as reads
-use Rattle.model.proofs.Topology.owners_fit.Lts as lts
-use Rattle.model.proofs.Topology.is_machine.Reads as is-machine-reads
 
 abbrev Inv-loop : tie.InvT-loop
 Inv-loop self count at₀ at =
@@ -27,9 +24,10 @@ room c = search mapped
 
 -- What the test of a turn says of all owners.
 turn : (c : tie.After-is-machine Inv-loop μ-loop) (b : Bool) → c .is-machine .result ≡ b
-    → let t = c .before .before .before .before .before .args .t1 in
+    → let l = c .before .before .before .before in
+    let t = l .before .args .t1 in
     ownersFit (t .machines) (topologyOf t .homes)
-    ≡ (b && ownersFit (t .machines) (drop (c .before .before .before .before .loop .at + 1) (topologyOf t .homes)))
+    ≡ (b && ownersFit (t .machines) (drop (l .loop .at + 1) (topologyOf t .homes)))
 turn c b e =
     let l = c .before .before .before .before in
     let h = l .before in
@@ -46,9 +44,6 @@ loop-holds c = refl
 element-copy-out-h : tie.Need-element-copy-out-h Inv-loop μ-loop
 element-copy-out-h c = omega arith
 
-is-machine-requires : tie.Need-is-machine-requires Inv-loop μ-loop
-is-machine-requires c κs = search needs
-
 returns : tie.Need-returns Inv-loop μ-loop
 returns c = sym (turn (c .before) false (not-true _ (c .if1 .taken)))
 
@@ -64,7 +59,8 @@ loop-again c = turn (c .before) true (not-false _ (c .if1 .left))
 returns-2 : tie.Need-returns-2 Inv-loop μ-loop
 returns-2 c =
     let h = c .before .before in
-    sym (c .before .loop .inv ∙ fit-end (h .args .t1) (room h) (h .pre) (c .before .loop .at) (c .loop-test .left))
+    let l = c .before .loop in
+    sym (l .inv ∙ fit-end (h .args .t1) (room h) (h .pre) (l .at) (c .loop-test .left))
 
 pub owners-fit-spec : {M : Type 1} → statement M
 owners-fit-spec =
@@ -75,7 +71,7 @@ owners-fit-spec =
     cast-count
     loop-holds
     element-copy-out-h
-    is-machine-requires
+    nothing
     returns
     add-at
     loop-less

@@ -1,0 +1,106 @@
+-- The events in the scratch area as a list: its parts, and that it depends on the events' words alone.
+use Prim.Native.Nat.{ℕ, zero, suc, _+_, _*_, _≤_, _<_}
+use native.Mathlib.Nat.{le-of-suc-le-suc, add-zero, zero-add}
+use native.Mathlib.Omega.{arith}
+use mathlib.Core.Path.{_≡_, refl, sym, ap, ap₂, _∙_}
+use mathlib.Core.Bool.{Bool, true, false, cond}
+use mathlib.Core.List.{List, [], _∷_}
+use lib.ListN.{take, drop}
+use Rattle.model.specs.Cxl0.{Location, Value, Event}
+use Rattle.model.specs.Operations.{eventOf}
+use Rattle.model.specs.declared.Event as event
+use Rattle.search.specs.Scratch.{EVENTS, ROWS, eventIn, eventsFrom, eventsIn}
+use Rattle.search.specs.Sites.{meant, machineOf, copyAfter, copyFrom}
+use Rattle.search.specs.Access.{MOST, OnlyIn, structIn}
+use Rattle.search.proofs.Frames.{getD-below}
+
+machine-cond : (i : ℕ) (b : Bool) (d e : Event) → machineOf d ≡ i → machineOf e ≡ i
+    → machineOf (cond b d e) ≡ i
+machine-cond i true d e p q = p
+machine-cond i false d e p q = q
+
+-- The machine of an event by its number is the machine.
+machine-of : (op i x v : ℕ) → machineOf (eventOf op i x v) ≡ i
+unfolding eventOf
+machine-of op i x v = search machine-cond depth 8
+
+-- An event that is read means the event, and has its machine.
+module _ (w : List ℕ) (j : ℕ) (e : event.Event) (read : e ≡ structIn w j) where
+  pub meant-read : meant e ≡ eventIn w j
+  unfolding eventIn
+  meant-read = ap meant read
+
+  pub machine-read : e .machine .0 ≡ machineOf (eventIn w j)
+  machine-read =
+      sym (machine-of (e .operation) (e .machine .0) (e .location .0) (e .value)) ∙ ap machineOf meant-read
+
+-- ---- parts
+
+take-events : (w : List ℕ) (j d m : ℕ) → d ≤ m → take d (eventsFrom w j m) ≡ eventsFrom w j d
+unfolding eventsFrom
+take-events w j zero m h = refl
+take-events w j (suc d) zero h = absurd (omega arith)
+take-events w j (suc d) (suc m) h = ap (_∷_ (eventIn w j)) (take-events w (suc j) d m (le-of-suc-le-suc h))
+
+-- The first d of m events are the first d events.
+pub events-take : (w : List ℕ) (d m : ℕ) → d ≤ m → take d (eventsIn w m) ≡ eventsIn w d
+events-take w d m h = take-events w 0 d m h
+
+drop-events : (w : List ℕ) (j t m : ℕ) → t < m
+    → drop t (eventsFrom w j m) ≡ eventIn w (j + t) ∷ drop (suc t) (eventsFrom w j m)
+unfolding eventsFrom
+drop-events w j t zero h = absurd (omega arith)
+drop-events w j zero (suc m) h = rw add-zero
+drop-events w j (suc t) (suc m) h =
+    let next : suc j + t ≡ j + suc t = omega arith in
+    rw (← next) (drop-events w (suc j) t m (le-of-suc-le-suc h))
+
+-- After t events come event t and those after it.
+pub events-drop : (w : List ℕ) (t m : ℕ) → t < m
+    → drop t (eventsIn w m) ≡ eventIn w t ∷ drop (suc t) (eventsIn w m)
+events-drop w t m h = rw zero-add at (drop-events w 0 t m h)
+
+drop-all : (w : List ℕ) (j m : ℕ) → drop m (eventsFrom w j m) ≡ []
+unfolding eventsFrom
+drop-all w j zero = refl
+drop-all w j (suc m) = drop-all w (suc j) m
+
+-- After all m events comes nothing.
+pub events-drop-all : (w : List ℕ) (m : ℕ) → drop m (eventsIn w m) ≡ []
+events-drop-all w m = drop-all w 0 m
+
+copy-last : (w : List ℕ) (x : Location) (u : Value) (j t : ℕ)
+    → copyFrom x u (eventsFrom w j (suc t))
+    ≡ copyAfter x (copyFrom x u (eventsFrom w j t)) (eventIn w (j + t))
+unfolding eventsFrom copyFrom
+copy-last w x u j zero = rw add-zero
+copy-last w x u j (suc t) =
+    let next : suc j + t ≡ j + suc t = omega arith in
+    rw (← next) (copy-last w x (copyAfter x u (eventIn w j)) (suc j) t)
+
+-- The copies after one event more.
+pub copies-suc : (w : List ℕ) (x : Location) (t : ℕ)
+    → copyFrom x 0 (eventsIn w (suc t)) ≡ copyAfter x (copyFrom x 0 (eventsIn w t)) (eventIn w t)
+copies-suc w x t = rw zero-add at (copy-last w x 0 0 t)
+
+-- ---- the events' words
+
+-- Equal words of an event give equal events.
+pub event-same : {to : ℕ} {w w' : List ℕ} → OnlyIn ROWS to w w' → (j : ℕ) → j < MOST
+    → eventIn w' j ≡ eventIn w j
+unfolding eventIn
+event-same p j h =
+    let first = getD-below p (EVENTS + 2 * j) (omega arith) in
+    let second = getD-below p (EVENTS + 2 * j + 1) (omega arith) in
+    simp (first, second)
+
+same-from : {to : ℕ} {w w' : List ℕ} → OnlyIn ROWS to w w' → (j m : ℕ) → j + m ≤ MOST
+    → eventsFrom w' j m ≡ eventsFrom w j m
+unfolding eventsFrom
+same-from p j zero h = refl
+same-from p j (suc m) h = ap₂ _∷_ (event-same p j (omega arith)) (same-from p (suc j) m (omega arith))
+
+-- Equal words of the events give equal events.
+pub events-same : {to : ℕ} {w w' : List ℕ} → OnlyIn ROWS to w w' → (m : ℕ) → m ≤ MOST
+    → eventsIn w' m ≡ eventsIn w m
+events-same p m h = same-from p 0 m (omega arith)

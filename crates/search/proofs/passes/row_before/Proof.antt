@@ -1,0 +1,44 @@
+-- `search::passes::row_before` meets its contract: what is read is the event, by its machine.
+use mathlib.Core.Path.{sym, subst, subst₂}
+use borrow.Author.Needs.{needs}
+use Rattle.model.specs.Cxl0.{Value, Event}
+use Rattle.masks.specs.Sets.{OneToSix}
+use Rattle.search.specs.Rows.{Closed}
+use Rattle.search.specs.Sites.{copyAfter}
+use Rattle.search.specs.Steps.{Stepped}
+use Rattle.search.proofs.Events.{meant-read, machine-read}
+use Rattle.search.proofs.passes.row_before.Statement.{statement}
+use Rattle.search.proofs.passes.row_before.Tie as tie
+
+get-event-requires : tie.Need-get-event-requires
+get-event-requires c κs = search needs
+
+get-copy-requires : tie.Need-get-copy-requires
+get-copy-requires c κs = search needs
+
+row-step-requires : tie.Need-row-step-requires
+row-step-requires c κs =
+    let start = c .before .before .before in
+    let a = start .args in
+    let x = a .site .location .0 in
+    let e = c .before .get-event in
+    let machine = sym (machine-read (a .w .now) (a .t) (e .result) (e .ensures)) in
+    let event = sym (meant-read (a .w .now) (a .t) (e .result) (e .ensures)) in
+    let copy = sym (c .get-copy .ensures) in
+    let pre = start .pre in
+    let rest = a .rest in
+    let closed = subst₂ (λ (u : Value) (e : Event). Closed (copyAfter x u e) rest) copy event (pre .closed) in
+    (pre .owner, (subst OneToSix machine (pre .machine), closed))
+
+returns : tie.Need-returns
+returns c =
+    let a = c .before .before .before .before .args in
+    let e = c .before .before .get-event in
+    let event = meant-read (a .w .now) (a .t) (e .result) (e .ensures) in
+    let copy = c .before .get-copy .ensures in
+    subst₂ (λ (u : Value) (e : Event). Stepped (a .site) e u (a .rest) (c .row-step .result)) copy event
+    (c .row-step .ensures)
+
+pub row-before-spec : {M : Type 1} → statement M
+row-before-spec =
+    tie.close (tie.spec get-event-requires get-copy-requires row-step-requires returns)

@@ -1,0 +1,10 @@
+pub mod Vectors
+pub mod Files
+pub mod Put
+pub mod Words
+pub mod Writing
+pub mod Fields
+pub mod Cursor
+pub mod Homes
+pub mod Remaining
+pub mod Accepted

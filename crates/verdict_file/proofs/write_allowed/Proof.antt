@@ -1,0 +1,97 @@
+-- `write_allowed` puts the file at the offset where it has room and the words are its steps, and changes
+-- nothing where not.
+use Prim.Native.Nat.{ℕ, _+_, _≤_}
+use native.Mathlib.Omega.{arith}
+use mathlib.Core.Path.{_≡_, sym, _∙_}
+use mathlib.Core.Bool.{true}
+use mathlib.Core.List.{List}
+use lib.ListN.{length}
+use denote.Ref.{now}
+use borrow.Author.Needs.{needs}
+use borrow.Author.Tests.{not-true, not-false}
+use Rattle.model.proofs.Tests.{true→T}
+use Rattle.verdict_file.specs.Files.{fileMost}
+use Rattle.verdict_file.specs.Writing.{allowedBy, writable, room}
+use Rattle.verdict_file.proofs.Put.{length-part}
+use Rattle.verdict_file.proofs.Writing.{has-room, refuses, writes}
+use Rattle.verdict_file.proofs.write_allowed.Statement.{statement}
+use Rattle.verdict_file.proofs.write_allowed.Tie as tie
+
+has-room-requires : tie.Need-has-room-requires
+has-room-requires c κs = search needs
+
+returns : tie.Need-returns
+unfolding room
+returns c =
+    let a = c .before .before .before .before .args in
+    refuses (allowedBy (now (a .steps))) (now (a .out)) (a .offset)
+    (rw (sym (c .before .has-room .ensures) ∙ not-true _ (c .if1 .taken)))
+
+-- After the first question: the output, the offset, the words, and room for the file.
+abbrev out : tie.Else1 → List ℕ
+out c = now (c .before .before .before .before .args .out)
+
+abbrev offset : tie.Else1 → ℕ
+offset c = c .before .before .before .before .args .offset
+
+abbrev words : tie.Else1 → List ℕ
+words c = now (c .before .before .before .before .args .steps)
+
+enough : (c : tie.Else1) → room (out c) (offset c) ≡ true
+unfolding room
+enough c = sym (c .before .has-room .ensures) ∙ not-false _ (c .if1 .left)
+
+fits : (c : tie.Else1) → offset c + fileMost ≤ length (out c)
+fits c = has-room (out c) (offset c) (enough c)
+
+are-steps-requires : tie.Need-are-steps-requires
+are-steps-requires c κs = search needs
+
+returns-2 : tie.Need-returns-2
+returns-2 c =
+    let d = c .before .before in
+    refuses (allowedBy (words d)) (out d) (offset d)
+    (rw (enough d) (sym (c .before .are-steps .ensures) ∙ not-true _ (c .if2 .taken)))
+
+-- After the second: the words are steps.
+steps : (c : tie.Else2) → writable (words (c .before .before)) ≡ true
+steps c = sym (c .before .are-steps .ensures) ∙ not-false _ (c .if2 .left)
+
+sub-part : tie.Need-sub-part
+sub-part c = omega (arith, fits (c .before .before))
+
+part-part-start : tie.Need-part-part-start
+part-part-start c = omega (arith, fits (c .before .before))
+
+part-part-end : tie.Need-part-part-end
+part-part-end c = omega arith
+
+fill-allowed-requires : tie.Need-fill-allowed-requires
+fill-allowed-requires c κs =
+    let d = c .before .before .before in
+    (omega (arith, fits d, length-part (out d) (offset d)), true→T (steps (c .before)))
+
+same-length : tie.Need-same-length
+same-length c = search needs
+
+returns-3 : tie.Need-returns-3
+returns-3 c =
+    let fill = c .before .before .fill-allowed .ensures in
+    let asked = c .before .before .before .before in
+    let d = asked .before .before in
+    writes (allowedBy (words d)) (out d) (offset d) (rw (enough d) (steps asked)) (fill .0) (fill .1)
+
+pub write-allowed-spec : {M : Type 1} → statement M
+write-allowed-spec =
+    tie.close
+    (tie.spec
+    has-room-requires
+    returns
+    are-steps-requires
+    returns-2
+    sub-part
+    part-part-start
+    part-part-end
+    fill-allowed-requires
+    same-length
+    returns-3)

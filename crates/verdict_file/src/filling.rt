@@ -1,0 +1,106 @@
+// Filling the part of the output that a file is to stand in, from its first byte on. The writers first ask
+// whether the part is long enough and the words are steps of a file, as the `requires` here demand.
+use crate::FILE_MOST;
+use crate::STEPS_MOST;
+use crate::TAG_END;
+use crate::TAG_STEP;
+use crate::TAG_VERDICT;
+ghost use mathlib.Core.Path.{_≡_};
+ghost use Prim.Native.Nat.{_+_, _≤_, _<_, _^_};
+ghost use lib.Dec.{T, leb};
+ghost use lib.ListN.{length};
+ghost use Rattle.verdict_file.specs.Files.{impossible, fileMost, header, stepField, end, fileOf};
+ghost use Rattle.model.specs.Words.{stepOfWord};
+ghost use Rattle.verdict_file.specs.Writing.{allowedBy, writable, put};
+
+// The words below it are steps of three bytes.
+const WORD_END: u64 = 0x100_0000;
+
+// The longest file has room in `length` bytes from the offset on.
+pub(crate) fn has_room(length: usize, offset: usize) -> bool
+    ensures { λ r. ⌜ r ≡ leb (offset + fileMost) length ⌝ }
+{
+    if length < offset {
+        return false;
+    }
+    FILE_MOST <= length - offset
+}
+
+// Whether there are few enough steps and each fits three bytes.
+pub(crate) fn are_steps(steps: &[u64]) -> bool
+    ensures { λ r. ⌜ r ≡ writable (now (steps .entry)) ⌝ }
+{
+    if STEPS_MOST < steps.len() {
+        return false;
+    }
+    let mut i = 0;
+    while i < steps.len() {
+        if WORD_END <= steps[i] {
+            return false;
+        }
+        i += 1;
+    }
+    true
+}
+
+fn put_header(part: &mut [u8], verdict: u8, event: u8) -> usize
+    requires { ⌜ 5 ≤ length (now part) ⌝ }
+    ensures { λ r. ⌜ (r ≡ 5) × (now (part .exit) ≡ put (now (part .entry)) 0 (header verdict event)) ⌝ }
+{
+    part[0] = TAG_VERDICT;
+    part[1] = 2;
+    part[2] = 0;
+    part[3] = verdict;
+    part[4] = event;
+    5
+}
+
+fn put_step(part: &mut [u8], at: usize, word: u64) -> usize
+    requires { ⌜ (at + 6 ≤ length (now part)) × (word < 2 ^ 24) ⌝ }
+    ensures { λ r. ⌜ (r ≡ at + 6)
+        × (now (part .exit) ≡ put (now (part .entry)) at (stepField (stepOfWord word))) ⌝ }
+{
+    part[at] = TAG_STEP;
+    part[at + 1] = 3;
+    part[at + 2] = 0;
+    part[at + 3] = (word % 256) as u8;
+    part[at + 4] = (word / 256 % 256) as u8;
+    part[at + 5] = (word / 65536) as u8;
+    at + 6
+}
+
+fn put_end(part: &mut [u8], at: usize) -> usize
+    requires { ⌜ at + 3 ≤ length (now part) ⌝ }
+    ensures { λ r. ⌜ (r ≡ at + 3) × (now (part .exit) ≡ put (now (part .entry)) at end) ⌝ }
+{
+    part[at] = TAG_END;
+    part[at + 1] = 0;
+    part[at + 2] = 0;
+    at + 3
+}
+
+// The file that says allowed, from the part's first byte on. Returns its length.
+pub(crate) fn fill_allowed(part: &mut [u8], steps: &[u64]) -> usize
+    requires { ⌜ (fileMost ≤ length (now part)) × T (writable (now steps)) ⌝ }
+    ensures { λ r. ⌜ r ≡ length (fileOf (allowedBy (now (steps .entry)))) ⌝ }
+    ensures { λ r. ⌜ now (part .exit) ≡
+        put (now (part .entry)) 0 (fileOf (allowedBy (now (steps .entry)))) ⌝ }
+{
+    let mut at = put_header(part, 1, 0);
+    let mut i = 0;
+    while i < steps.len() {
+        at = put_step(part, at, steps[i]);
+        i += 1;
+    }
+    put_end(part, at)
+}
+
+// The file that says impossible.
+pub(crate) fn fill_impossible(part: &mut [u8], event: u8) -> usize
+    requires { ⌜ fileMost ≤ length (now part) ⌝ }
+    ensures { λ r. ⌜ r ≡ length (fileOf (impossible event)) ⌝ }
+    ensures { λ r. ⌜ now (part .exit) ≡ put (now (part .entry)) 0 (fileOf (impossible event)) ⌝ }
+{
+    let at = put_header(part, 0, event);
+    put_end(part, at)
+}
