@@ -1,5 +1,5 @@
-// Numbers as text, for the programs: decimal and hexadecimal digits into a buffer, and back out of one. What does not fit
-// is left out, and what is no digit ends a number. No contract says more than that: what a program prints is tested.
+// Numbers as text, for the programs: decimal and hexadecimal digits into a buffer, and back out of one. What does not
+// fit is left out, and what is no digit ends a number. No contract says more: what a program prints is tested.
 ghost use Prim.Native.Nat.{_≤_, _<_};
 
 // Where reading stopped, and how many bytes, or which number, was read.

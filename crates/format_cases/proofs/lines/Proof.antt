@@ -1,13 +1,9 @@
+-- `format_cases::lines` is safe and ends.
 use borrow.Author.Needs.{needs}
 use Prim.Native.Nat.{_≤_, _+_, _-_}
-use native.Mathlib.Omega.{arith}
-use lib.ListN.{length, length-take, length-drop}
+use lib.ListN.{length}
 use Rattle.format_cases.proofs.lines.Statement.{statement}
 use Rattle.format_cases.proofs.lines.Tie as tie
-use Rattle.format_cases.proofs.lines.Reads as reads
-use Rattle.format_cases.proofs.lines.Lts as lts
-use Rattle.format_cases.proofs.line_end.Reads as line-end-reads
-use Rattle.format_cases.proofs.one_line.Reads as one-line-reads
 
 abbrev Inv-loop : tie.InvT-loop
 Inv-loop text at₀ at = at ≤ length text + 1
@@ -15,43 +11,33 @@ Inv-loop text at₀ at = at ≤ length text + 1
 abbrev μ-loop : tie.MeasureT-loop
 μ-loop text at₀ at = length text + 1 - at
 
--- src/main.rt:198:5
 loop-holds : tie.Need-loop-holds Inv-loop μ-loop
 loop-holds c = search needs
 
--- src/main.rt:199:13
 line-end-requires : tie.Need-line-end-requires Inv-loop μ-loop
 line-end-requires c κs = search needs
 
--- src/main.rt:200:18
 sub-one-line : tie.Need-sub-one-line Inv-loop μ-loop
 sub-one-line c = search needs
 
--- src/main.rt:200:18
 part-one-line-start : tie.Need-part-one-line-start Inv-loop μ-loop
 part-one-line-start c = search needs
 
--- src/main.rt:200:18
 part-one-line-end : tie.Need-part-one-line-end Inv-loop μ-loop
 part-one-line-end c = search needs
 
--- src/main.rt:200:9
 one-line-requires : tie.Need-one-line-requires Inv-loop μ-loop
 one-line-requires c κs = search needs
 
--- src/main.rt:201:14
 add-at : tie.Need-add-at Inv-loop μ-loop
 add-at c = search needs
 
--- src/main.rt:198:5
 loop-less : tie.Need-loop-less Inv-loop μ-loop
 loop-less c = search needs
 
--- src/main.rt:198:5
 loop-again : tie.Need-loop-again Inv-loop μ-loop
 loop-again c = search needs
 
--- src/main.rt:196:1
 returns : tie.Need-returns Inv-loop μ-loop
 returns c = search needs
 

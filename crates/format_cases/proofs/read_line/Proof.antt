@@ -1,46 +1,34 @@
+-- `format_cases::read_line` is safe and ends.
 use borrow.Author.Needs.{needs}
 use native.Mathlib.Omega.{arith}
 use lib.ListN.{length-take}
 use Rattle.format_cases.proofs.read_line.Statement.{statement}
 use Rattle.format_cases.proofs.read_line.Tie as tie
-use Rattle.format_cases.proofs.read_line.Reads as reads
-use Rattle.format_cases.proofs.read_line.Lts as lts
-use Rattle.format_cases.proofs.say_read.Reads as say-read-reads
-use Rattle.text.proofs.hex_bytes.Reads as hex-bytes-reads
 
--- src/main.rt:68:9
 hex-bytes-requires : tie.Need-hex-bytes-requires
 hex-bytes-requires c κs = search needs
 
--- src/main.rt:71:30
 slice-reshare-prefix-say-read : tie.Need-slice-reshare-prefix-say-read
 slice-reshare-prefix-say-read c = search needs
 
--- src/main.rt:71:30
 slice-aggregate-say-read : tie.Need-slice-aggregate-say-read
 slice-aggregate-say-read c = simp length-take (omega arith)
 
--- src/main.rt:71:9
 say-read-requires : tie.Need-say-read-requires
 say-read-requires c κs = search needs
 
--- src/main.rt:71:9
 same-length : tie.Need-same-length
 same-length c = search needs
 
--- src/main.rt:71:9
 same-length-2 : tie.Need-same-length-2
 same-length-2 c = search needs
 
--- src/main.rt:71:9
 returns : tie.Need-returns
 returns c = search needs
 
--- src/main.rt:67:1
 same-length-3 : tie.Need-same-length-3
 same-length-3 c = search needs
 
--- src/main.rt:67:1
 returns-2 : tie.Need-returns-2
 returns-2 c = search needs
 

@@ -1,12 +1,10 @@
+-- `format_cases::say_bytes` is safe and ends.
 use borrow.Author.Needs.{needs}
 use Prim.Native.Nat.{_≤_, _-_}
 use mathlib.Core.Path.{_≡_}
 use lib.ListN.{length}
 use Rattle.format_cases.proofs.say_bytes.Statement.{statement}
 use Rattle.format_cases.proofs.say_bytes.Tie as tie
-use Rattle.format_cases.proofs.say_bytes.Reads as reads
-use Rattle.format_cases.proofs.say_bytes.Lts as lts
-use Rattle.text.proofs.put_hex.Reads as put-hex-reads
 
 abbrev Inv-loop : tie.InvT-loop
 Inv-loop out₀ at bytes to₀ from₀ out to from = length out ≡ length out₀
@@ -14,35 +12,27 @@ Inv-loop out₀ at bytes to₀ from₀ out to from = length out ≡ length out�
 abbrev μ-loop : tie.MeasureT-loop
 μ-loop out₀ at bytes to₀ from₀ out to from = length bytes - from
 
--- src/main.rt:79:5
 loop-holds : tie.Need-loop-holds Inv-loop μ-loop
 loop-holds c = search needs
 
--- src/main.rt:80:37
 shared-slice-read-put-hex : tie.Need-shared-slice-read-put-hex Inv-loop μ-loop
 shared-slice-read-put-hex c = search needs
 
--- src/main.rt:80:9
 put-hex-requires : tie.Need-put-hex-requires Inv-loop μ-loop
 put-hex-requires c κs = search needs
 
--- src/main.rt:81:9
 add-from : tie.Need-add-from Inv-loop μ-loop
 add-from c = search needs
 
--- src/main.rt:79:5
 loop-less : tie.Need-loop-less Inv-loop μ-loop
 loop-less c = search needs
 
--- src/main.rt:79:5
 loop-again : tie.Need-loop-again Inv-loop μ-loop
 loop-again c = search needs
 
--- src/main.rt:76:1
 same-length : tie.Need-same-length Inv-loop μ-loop
 same-length c = search needs
 
--- src/main.rt:76:1
 returns : tie.Need-returns Inv-loop μ-loop
 returns c = search needs
 

@@ -1,3 +1,4 @@
+-- `text::hex_bytes` is safe and ends.
 use borrow.Author.Needs.{needs}
 use Prim.Native.Nat.{_≤_, _-_}
 use mathlib.Core.Path.{_≡_}
@@ -5,9 +6,6 @@ use lib.ListN.{length}
 use native.Mathlib.Omega.{arith}
 use Rattle.text.proofs.hex_bytes.Statement.{statement}
 use Rattle.text.proofs.hex_bytes.Tie as tie
-use Rattle.text.proofs.hex_bytes.Reads as reads
-use Rattle.text.proofs.hex_bytes.Lts as lts
-use Rattle.text.proofs.hex_value.Reads as hex-value-reads
 
 abbrev Inv-loop : tie.InvT-loop
 Inv-loop text at out₀ from₀ count₀ out from count = length out ≡ length out₀
@@ -15,99 +13,75 @@ Inv-loop text at out₀ from₀ count₀ out from count = length out ≡ length 
 abbrev μ-loop : tie.MeasureT-loop
 μ-loop text at out₀ from₀ count₀ out from count = length text - from
 
--- src/lib.rt:68:5
 loop-holds : tie.Need-loop-holds Inv-loop μ-loop
 loop-holds c = search needs
 
--- src/lib.rt:69:12
 sub-if1 : tie.Need-sub-if1 Inv-loop μ-loop
 sub-if1 c = search needs
 
--- src/lib.rt:70:13
 same-length : tie.Need-same-length Inv-loop μ-loop
 same-length c = search needs
 
--- src/lib.rt:70:13
 returns : tie.Need-returns Inv-loop μ-loop
 returns c = search needs
 
--- src/lib.rt:75:30
 shared-slice-read-hex-value : tie.Need-shared-slice-read-hex-value Inv-loop μ-loop
 shared-slice-read-hex-value c = search needs
 
--- src/lib.rt:75:13
 hex-value-requires : tie.Need-hex-value-requires Inv-loop μ-loop
 hex-value-requires c κs = search needs
 
--- src/lib.rt:76:34
 add-hex-value : tie.Need-add-hex-value Inv-loop μ-loop
 add-hex-value c = search needs
 
--- src/lib.rt:76:29
 shared-slice-read-hex-value-2 : tie.Need-shared-slice-read-hex-value-2 Inv-loop μ-loop
 shared-slice-read-hex-value-2 c = search needs
 
--- src/lib.rt:76:13
 hex-value-requires-2 : tie.Need-hex-value-requires-2 Inv-loop μ-loop
 hex-value-requires-2 c κs = search needs
 
--- src/lib.rt:78:13
 same-length-2 : tie.Need-same-length-2 Inv-loop μ-loop
 same-length-2 c = search needs
 
--- src/lib.rt:78:13
 returns-2 : tie.Need-returns-2 Inv-loop μ-loop
 returns-2 c = search needs
 
--- src/lib.rt:84:13
 same-length-3 : tie.Need-same-length-3 Inv-loop μ-loop
 same-length-3 c = search needs
 
--- src/lib.rt:84:13
 returns-3 : tie.Need-returns-3 Inv-loop μ-loop
 returns-3 c = search needs
 
--- src/lib.rt:90:13
 same-length-4 : tie.Need-same-length-4 Inv-loop μ-loop
 same-length-4 c = search needs
 
--- src/lib.rt:90:13
 returns-4 : tie.Need-returns-4 Inv-loop μ-loop
 returns-4 c = search needs
 
--- src/lib.rt:95:22
 mul-out : tie.Need-mul-out Inv-loop μ-loop
 mul-out c = search needs
 
--- src/lib.rt:95:22
 add-out : tie.Need-add-out Inv-loop μ-loop
 add-out c = search needs
 
--- src/lib.rt:95:9
 slice-write-out : tie.Need-slice-write-out Inv-loop μ-loop
 slice-write-out c = search needs
 
--- src/lib.rt:96:9
 add-count : tie.Need-add-count Inv-loop μ-loop
 add-count c = search needs
 
--- src/lib.rt:97:9
 add-from : tie.Need-add-from Inv-loop μ-loop
 add-from c = search needs
 
--- src/lib.rt:68:5
 loop-less : tie.Need-loop-less Inv-loop μ-loop
 loop-less c = search needs
 
--- src/lib.rt:68:5
 loop-again : tie.Need-loop-again Inv-loop μ-loop
 loop-again c = search needs
 
--- src/lib.rt:65:1
 same-length-5 : tie.Need-same-length-5 Inv-loop μ-loop
 same-length-5 c = search needs
 
--- src/lib.rt:65:1
 returns-5 : tie.Need-returns-5 Inv-loop μ-loop
 returns-5 c = search needs
 
