@@ -178,7 +178,7 @@ silent-named sys x l (WriteBack y) s h t p = rw (eqb→eq x y t) at l
 
 -- A list that runs at x with silent steps of x alone names machines and locations of the system, if its
 -- events do.
-own-named : (sys : Topology) (x : Location) → WellFormed sys → T (isLocation sys x)
+pub own-named : (sys : Topology) (x : Location) → WellFormed sys → T (isLocation sys x)
     → (acts : List Action) (s : Local) → s .code < 2 ^ sys .machines → T (ownSteps x acts)
     → T (allNamed sys (map event (events acts))) → T (runsAt sys x acts s) → T (each (named sys) acts)
 unfolding ownSteps allNamed events each

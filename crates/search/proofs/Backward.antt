@@ -79,7 +79,7 @@ written-none s m w right closed =
     }
 
 -- The copies after an event are those before the next.
-copy-next : (x : Location) (m : ℕ) (w : List ℕ) → Copies x m w → (t : ℕ) → t < m
+pub copy-next : (x : Location) (m : ℕ) (w : List ℕ) → Copies x m w → (t : ℕ) → t < m
     → copyAfter x (copyIn w t) (eventIn w t) ≡ copyIn w (suc t)
 copy-next x m w copies t h = rw (copies t (omega arith), copies (suc t) h) (sym (copies-suc w x t))
 

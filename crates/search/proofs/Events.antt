@@ -4,8 +4,8 @@ use native.Mathlib.Nat.{le-of-suc-le-suc, add-zero, zero-add}
 use native.Mathlib.Omega.{arith}
 use mathlib.Core.Path.{_≡_, refl, sym, ap, ap₂, _∙_}
 use mathlib.Core.Bool.{Bool, true, false, cond}
-use mathlib.Core.List.{List, [], _∷_}
-use lib.ListN.{take, drop}
+use mathlib.Core.List.{List, [], _∷_, _++_}
+use lib.ListN.{length, take, drop}
 use Rattle.model.specs.Cxl0.{Location, Value, Event}
 use Rattle.model.specs.Operations.{eventOf}
 use Rattle.model.specs.declared.Event as event
@@ -68,6 +68,25 @@ drop-all w j (suc m) = drop-all w (suc j) m
 -- After all m events comes nothing.
 pub events-drop-all : (w : List ℕ) (m : ℕ) → drop m (eventsIn w m) ≡ []
 events-drop-all w m = drop-all w 0 m
+
+last-event : (w : List ℕ) (j t : ℕ) → eventsFrom w j (suc t) ≡ eventsFrom w j t ++ eventIn w (j + t) ∷ []
+unfolding eventsFrom
+last-event w j zero = rw add-zero
+last-event w j (suc t) =
+    let next : suc j + t ≡ j + suc t = omega arith in
+    rw (← next) (ap (_∷_ (eventIn w j)) (last-event w (suc j) t))
+
+-- One event more at the end.
+pub events-suc : (w : List ℕ) (t : ℕ) → eventsIn w (suc t) ≡ eventsIn w t ++ eventIn w t ∷ []
+events-suc w t = rw zero-add at (last-event w 0 t)
+
+length-from : (w : List ℕ) (j m : ℕ) → length (eventsFrom w j m) ≡ m
+unfolding eventsFrom
+length-from w j zero = refl
+length-from w j (suc m) = ap suc (length-from w (suc j) m)
+
+pub events-length : (w : List ℕ) (m : ℕ) → length (eventsIn w m) ≡ m
+events-length w m = length-from w 0 m
 
 copy-last : (w : List ℕ) (x : Location) (u : Value) (j t : ℕ)
     → copyFrom x u (eventsFrom w j (suc t))

@@ -41,7 +41,7 @@ Fits s = s .code < 64
 
 module _ (sys : Topology) (x : Location) where
   -- The value of the copies after an event is `copyAfter`.
-  next-copy : (e : Event) (s : Local) → nextAt sys x (event e) s .copy ≡ copyAfter x (s .copy) e
+  pub next-copy : (e : Event) (s : Local) → nextAt sys x (event e) s .copy ≡ copyAfter x (s .copy) e
   unfolding nextAt concerns eventAt effect copyAfter
   next-copy (LStore i y v) s = copy-cond (eqb x y) _ s
   next-copy (RStore i y v) s = copy-cond (eqb x y) _ s
@@ -52,7 +52,7 @@ module _ (sys : Topology) (x : Location) where
   next-copy (Crash i) s = refl
 
   -- An event by one of machines 1 to 6 keeps codes below 64.
-  next-fits : OneToSix (owner sys x) → (e : Event) → OneToSix (machineOf e) → (s : Local)
+  pub next-fits : OneToSix (owner sys x) → (e : Event) → OneToSix (machineOf e) → (s : Local)
       → Fits s → Fits (nextAt sys x (event e) s)
   unfolding nextAt concerns eventAt effect
   next-fits k (LStore i y v) o s h = either Fits (eqb x y) (insert-fits i 0 o (omega arith)) h
@@ -67,7 +67,7 @@ module _ (sys : Topology) (x : Location) where
   next-fits k (Crash i) o s h = lt-of-le-of-lt (remove-le i (s .code)) h
 
 -- An event that does not concern x changes no copies.
-copy-elsewhere : (x : Location) (u : Value) (e : Event) → T (not (eventAt x e)) → copyAfter x u e ≡ u
+pub copy-elsewhere : (x : Location) (u : Value) (e : Event) → T (not (eventAt x e)) → copyAfter x u e ≡ u
 unfolding eventAt copyAfter
 copy-elsewhere x u (LStore i y v) t = rw (not→false {b = eqb x y} t)
 copy-elsewhere x u (RStore i y v) t = rw (not→false {b = eqb x y} t)

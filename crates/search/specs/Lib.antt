@@ -9,3 +9,7 @@ pub mod Rising
 pub mod Ordering
 pub mod Stored
 pub mod SortedWords
+pub mod Trails
+pub mod Allowance
+pub mod Places
+pub mod Walks

@@ -9,6 +9,7 @@ pub mod passes;
 pub mod scratch;
 pub mod sorting;
 pub mod table;
+pub mod walking;
 
 // From which states the rest of a log can be finished, where copies have one given value: codes of `any` with every
 // memory value, and codes of `one` with the memory value `value`.

@@ -45,7 +45,7 @@ fn all_if(yes: bool) -> u64
 }
 
 // The codes that the row has with memory value m.
-fn codes(row: Row, m: u32) -> u64
+pub fn codes(row: Row, m: u32) -> u64
     ensures { λ r. ⌜ Exactly r (λ c. Fine row c m) ⌝ }
 {
     if row.value == m {

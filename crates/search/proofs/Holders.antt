@@ -1,0 +1,44 @@
+-- The codes of sets of machines in a byte: machine i is in the set if bit i - 1 is set.
+use Prim.Native.Nat.{ℕ, zero, suc, _+_, _-_, _/_, _%_, _^_, _<_}
+use native.Mathlib.Nat.{mod-eq-of-lt}
+use native.Mathlib.Numerals.{one-add, add-one}
+use native.Mathlib.Omega.{arith}
+use mathlib.Core.Path.{_≡_, sym, _∙_}
+use mathlib.Core.Logic.{_↔_}
+use mathlib.Core.Bool.{not}
+use lib.Dec.{T, eqb, eqb→eq}
+use lib.Bits.{bitAnd, bitOr}
+use lib.Ieee.Fits.{eq→eqb}
+use lib.Pow.{shr-shr}
+use Rattle.model.specs.Cxl0.{Machine}
+use Rattle.model.specs.Sharers.{has, insert, remove}
+use Rattle.model.proofs.Bits as bits
+use Rattle.masks.specs.Sets.{In, Least, OneToSix}
+use Rattle.masks.proofs.Sets.{in-bound}
+use Rattle.masks.proofs.Codes.{insert-fits}
+
+-- Bit i is that of machine i + 1.
+in-has : (i c : ℕ) → In i c ↔ T (has (suc i) c)
+unfolding has
+in-has zero c = (λ h. eq→eqb {a = c % 2} {b = 1} (omega arith), λ t. omega (arith, eqb→eq (c % 2) 1 t))
+in-has (suc i) c =
+    let half : c / 2 ^ suc i ≡ c / 2 / 2 ^ i = rw (← one-add i) (sym (shr-shr c 1 i)) in
+    rw half (in-has i (c / 2))
+
+-- The least bit of a code is a machine that has a copy.
+pub least-has : (z c : ℕ) → c < 64 → Least z c → (z < 6) × T (has (z + 1) c)
+least-has z c h l = (in-bound 6 c z h (l .0), rw (add-one z) (in-has z c .0 (l .0)))
+
+-- b is the code of machine i alone.
+module _ (i : Machine) (c b : ℕ) (one : b ≡ insert i 0) (low : b < 64) (h : c < 64) where
+  bit : b ≡ insert i 0 % 256
+  bit = one ∙ sym (mod-eq-of-lt (omega arith))
+
+  pub has-bit : not (eqb (bitAnd c b) 0) ≡ has i c
+  has-bit = bits.has-byte i c b bit (omega arith)
+
+  pub with-bit : OneToSix i → bitOr c b ≡ insert i c
+  with-bit o = bits.insert-byte i c b bit (omega arith) ∙ mod-eq-of-lt (omega (arith, insert-fits i c o h))
+
+  pub without-bit : bitAnd c (255 - b) ≡ remove i c
+  without-bit = bits.remove-byte i c b bit (omega arith)

@@ -1,0 +1,139 @@
+-- A schedule of one location, event by event: steps of the location in order that, woven with the events, run
+-- at it. They name machines and locations of the system, and are no more than the events allow for.
+use Prim.Native.Nat.{ℕ, suc, _≤_}
+use native.Mathlib.Omega.{arith}
+use mathlib.Core.Path.{_≡_, refl, sym, ap, _∙_, subst}
+use mathlib.Core.Logic.{⊎-elim}
+use mathlib.Core.List.{List, [], _∷_, _++_, map, cons≢nil, nil≢cons, head-eq-of-cons-eq, tail-eq-of-cons-eq}
+use mathlib.Core.List.{List·Memᴰ, List·Memᴰ·head, List·Memᴰ·tail, List·Memᴰ·not-nil}
+use mathlib.Core.List.{List·Memᴰ·cases-cons, List·Memᴰ·append-cases}
+use lib.Dec.{T}
+use lib.Ieee.Fits.{eq→eqb}
+use lib.ListN.{length, length-append, length-map}
+use Rattle.model.specs.Cxl0.{Machine, Location, Topology, Event, Silent, Action, event, silent}
+use Rattle.model.specs.Cxl0.{named, silents}
+use Rattle.model.specs.Schedule.{Step, silentOf, steps, weaveFrom, weave, inOrder}
+use Rattle.model.specs.OneLocation.{Local, silentAt, startAt, ownSteps}
+use Rattle.model.proofs.Tests.{and-i, and-l, and-r}
+use Rattle.model.proofs.Merge.{each}
+use Rattle.model.proofs.Expand.{start-inRange}
+use Rattle.model.proofs.Split.{own-named}
+use Rattle.model.proofs.Weaving.{events-weave, silents-weave}
+use Rattle.model.proofs.Potential.{rank-start}
+use Rattle.search.specs.declared.Site.{Site}
+use Rattle.search.specs.Rows.{state}
+use Rattle.search.specs.Sites.{Describes}
+use Rattle.search.specs.Trails.{stepAt, RunsTo}
+use Rattle.search.specs.Walks.{Placed, Schedules}
+use Rattle.search.specs.Allowance.{allowance}
+use Rattle.search.proofs.Ordering.{inOrder-append, silentAt-silentOf}
+use Rattle.search.proofs.OneMore.{weave-more}
+use Rattle.search.proofs.Trails.{runsTo-none, runsTo-append}
+use Rattle.search.proofs.StepWords.{at-inOrder, at-own}
+use Rattle.search.proofs.Allowance.{rank-runs}
+
+-- The silent steps of the actions are those of the schedule.
+abbrev Of : List Step → List Action → Type 0
+Of ps acts = silents acts ≡ map silentOf ps
+
+-- If each step of the schedule is one of x, so is each silent step of the actions.
+own-steps : (x : Location) (acts : List Action) (ps : List Step) → Of ps acts
+    → ((p : Step) → List·Memᴰ p ps → p .location ≡ x) → T (ownSteps x acts)
+unfolding ownSteps silents
+own-steps x [] ps e own = tt
+own-steps x (event f ∷ acts) ps e own = own-steps x acts ps e own
+own-steps x (silent a ∷ acts) [] e own = absurd (cons≢nil e)
+own-steps x (silent a ∷ acts) (p ∷ ps) e own =
+    let here : T (silentAt x a) =
+    rw (head-eq-of-cons-eq e, silentAt-silentOf x (p .location) (p .before) (p .machine))
+    (eq→eqb (sym (own p (List·Memᴰ·head refl)))) in
+    and-i (silentAt x a) (ownSteps x acts) here
+    (own-steps x acts ps (tail-eq-of-cons-eq e) (λ q m. own q (List·Memᴰ·tail m)))
+
+-- If the actions name machines and locations of the system, so does each step of the schedule.
+named-steps : (sys : Topology) (acts : List Action) (ps : List Step) → Of ps acts → T (each (named sys) acts)
+    → (p : Step) → List·Memᴰ p ps → T (named sys (silent (silentOf p)))
+unfolding each silents
+named-steps sys [] [] e t p m = absurd (List·Memᴰ·not-nil m)
+named-steps sys [] (q ∷ ps) e t p m = absurd (nil≢cons e)
+named-steps sys (event f ∷ acts) ps e t p m =
+    named-steps sys acts ps e (and-r (named sys (event f)) (each (named sys) acts) t) p m
+named-steps sys (silent a ∷ acts) [] e t p m = absurd (cons≢nil e)
+named-steps sys (silent a ∷ acts) (q ∷ ps) e t p m =
+    let here = and-l (named sys (silent a)) (each (named sys) acts) t in
+    let rest = and-r (named sys (silent a)) (each (named sys) acts) t in
+    let same = head-eq-of-cons-eq e in
+    ⊎-elim
+    (λ h. subst (λ (b : Silent). T (named sys (silent b))) (same ∙ ap silentOf (sym h)) here)
+    (named-steps sys acts ps (tail-eq-of-cons-eq e) rest p)
+    (List·Memᴰ·cases-cons m)
+
+-- ---- event by event
+
+-- Steps of the site's location in order that, woven with the events, lead from the start to the short form z.
+pub record Leading (s : Site) (es : List Event) (ps : List Step) (z : Local) : Type 0 where
+  pub own : (p : Step) → List·Memᴰ p ps → p .location ≡ s .location .0
+  pub order : T (inOrder 0 (length es) ps)
+  pub runs : (sys : Topology) → Describes sys s
+      → RunsTo sys (s .location .0) (weave es ps) (startAt sys (s .location .0)) z
+
+pub leading-none : (s : Site) → Leading s [] [] (state 0 0 (s .initial))
+unfolding inOrder weave weaveFrom steps startAt
+leading-none s =
+    record {
+      own = λ p i. absurd (List·Memᴰ·not-nil i);
+      order = tt;
+      runs = λ sys d. rw (d .begins) (runsTo-none sys (s .location .0));
+    }
+
+-- One event more, with the steps of the machines before it.
+pub leading-more : {s : Site} {es : List Event} {ps : List Step} {z : Local} → Leading s es ps z
+    → (e : Event) (t : ℕ) (is : List Machine) {z' : Local} → length es ≡ t
+    → let qs : List Step = map (stepAt t (s .location .0)) is in
+    ((sys : Topology) → Describes sys s → RunsTo sys (s .location .0) (steps qs ++ event e ∷ []) z z')
+    → Leading s (es ++ e ∷ []) (ps ++ qs) z'
+leading-more {s} {es} {ps} l e t is size runs =
+    let x = s .location .0 in
+    let qs = map (stepAt t x) is in
+    let before = rw size at (l .order) in
+    let more : length (es ++ e ∷ []) ≡ suc t = rw length-append (omega arith) in
+    let woven = weave-more es e ps qs (l .order) (rw size (at-inOrder t t x is (omega arith))) in
+    record {
+      own = λ p i. ⊎-elim (l .own p) (at-own t x is p) (List·Memᴰ·append-cases ps i);
+      order = rw more
+          (inOrder-append 0 t (suc t) ps qs (omega arith) (omega arith) before
+          (at-inOrder t (suc t) x is (omega arith)));
+      runs = λ sys d. rw woven (runsTo-append sys x (weave es ps) (l .runs sys d) (runs sys d));
+    }
+
+-- ---- the whole schedule
+
+module _ (s : Site) (es : List Event) (ps : List Step) (z : Local) (l : Leading s es ps z)
+    (system : Topology) (placed : Placed system s es) where
+  own-weave : T (ownSteps (s .location .0) (weave es ps))
+  own-weave = own-steps (s .location .0) (weave es ps) ps (silents-weave es ps) (l .own)
+
+  named-weave : (sys : Topology) → Placed sys s es → T (each (named sys) (weave es ps))
+  named-weave sys p =
+      let x = s .location .0 in
+      own-named sys x (p .wellFormed) (p .listed) (weave es ps) (startAt sys x) (start-inRange sys x)
+      own-weave (rw (events-weave es ps) (p .named)) (l .runs sys (p .describes) .runs)
+
+  bounded : length ps ≤ allowance (s .location .0) es
+  bounded =
+      let x = s .location .0 in
+      let owner = placed .wellFormed x (placed .listed) in
+      let all = rank-runs system x owner (weave es ps) (startAt system x)
+      (named-weave system placed) own-weave (l .runs system (placed .describes) .runs) in
+      let few = rw (silents-weave es ps, events-weave es ps) at all in
+      omega (arith, few, rank-start system x, length-map ps silentOf)
+
+  pub schedules : Schedules s es ps
+  schedules =
+      record {
+        own = l .own;
+        inOrder = l .order;
+        few = bounded;
+        named = λ sys p. named-steps sys (weave es ps) ps (silents-weave es ps) (named-weave sys p);
+        runs = λ sys d. l .runs sys d .runs;
+      }
