@@ -23,3 +23,4 @@ pub mod OneForm
 pub mod Sequences
 pub mod Stores
 pub mod Calls
+pub mod Walked
