@@ -8,6 +8,7 @@ for out in target/log/*.out; do
     verdict=$(grep '^logic=' "$out" | tail -n 1)
     case $verdict in
     logic=proved*) ;;
+    "") grep -q 'unchanged since it was last proved' "$out" || { echo "$name: no verdict"; fails=1; } ;;
     *) echo "$name: $verdict"; fails=1 ;;
     esac
     if [ -f "crates/$name/src/lib.rt" ] && grep -qE ' (foreign|axioms)=' <<<"$verdict"; then
