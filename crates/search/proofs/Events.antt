@@ -3,26 +3,15 @@ use Prim.Native.Nat.{ℕ, zero, suc, _+_, _*_, _≤_, _<_}
 use native.Mathlib.Nat.{le-of-suc-le-suc, add-zero, zero-add}
 use native.Mathlib.Omega.{arith}
 use mathlib.Core.Path.{_≡_, refl, sym, ap, ap₂, _∙_}
-use mathlib.Core.Bool.{Bool, true, false, cond}
 use mathlib.Core.List.{List, [], _∷_, _++_}
 use lib.ListN.{length, take, drop}
 use Rattle.model.specs.Cxl0.{Location, Value, Event}
-use Rattle.model.specs.Operations.{eventOf}
 use Rattle.model.specs.declared.Event as event
 use Rattle.search.specs.Scratch.{EVENTS, ROWS, eventIn, eventsFrom, eventsIn}
 use Rattle.search.specs.Sites.{meant, machineOf, copyAfter, copyFrom}
 use Rattle.search.specs.Access.{MOST, OnlyIn, structIn}
 use Rattle.search.proofs.Frames.{getD-below}
-
-machine-cond : (i : ℕ) (b : Bool) (d e : Event) → machineOf d ≡ i → machineOf e ≡ i
-    → machineOf (cond b d e) ≡ i
-machine-cond i true d e p q = p
-machine-cond i false d e p q = q
-
--- The machine of an event by its number is the machine.
-machine-of : (op i x v : ℕ) → machineOf (eventOf op i x v) ≡ i
-unfolding eventOf
-machine-of op i x v = search machine-cond depth 8
+use Rattle.search.proofs.Numbered.{machine-of}
 
 -- An event that is read means the event, and has its machine.
 module _ (w : List ℕ) (j : ℕ) (e : event.Event) (read : e ≡ structIn w j) where
@@ -31,8 +20,7 @@ module _ (w : List ℕ) (j : ℕ) (e : event.Event) (read : e ≡ structIn w j) 
   meant-read = ap meant read
 
   pub machine-read : e .machine .0 ≡ machineOf (eventIn w j)
-  machine-read =
-      sym (machine-of (e .operation) (e .machine .0) (e .location .0) (e .value)) ∙ ap machineOf meant-read
+  machine-read = sym (machine-of e) ∙ ap machineOf meant-read
 
 -- ---- parts
 
