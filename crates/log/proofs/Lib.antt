@@ -24,3 +24,5 @@ pub mod Sequences
 pub mod Stores
 pub mod Calls
 pub mod Walked
+pub mod Gathered
+pub mod Heads

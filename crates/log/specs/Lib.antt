@@ -7,3 +7,4 @@ pub mod Reading
 pub mod Recording
 pub mod Answers
 pub mod Inner
+pub mod Opening

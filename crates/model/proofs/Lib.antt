@@ -4,6 +4,11 @@ pub mod Machines
 pub mod Sharers
 pub mod Expand
 pub mod CopiesAgree
+pub mod Goes
+pub mod Stores
+pub mod Proposition1
+pub mod InMemory
+pub mod Persistence
 pub mod Merge
 pub mod Split
 pub mod Sums

@@ -3,8 +3,8 @@ use Prim.Native.Nat.{ℕ, zero, suc, _≤_, _<_}
 use native.Mathlib.Omega.{arith}
 use mathlib.Core.Path.{_≡_, refl, sym, subst}
 use mathlib.Core.Logic.{⊎-elim}
-use mathlib.Core.Bool.{Bool, true, false, _&&_, _||_}
-use lib.Dec.{T, eqb, eqb→eq, nltb→le}
+use mathlib.Core.Bool.{Bool, true, false, not, _&&_, _||_}
+use lib.Dec.{T, T-not, eqb, eqb→eq, nltb→le}
 use native.Mathlib.Nat.{le-trans, not-suc-le-zero}
 use Rattle.model.specs.Cxl0.{Machine, someMachine, everyMachine}
 use Rattle.model.proofs.Tests.{and-l, and-r, and-i, or-l, or-r, or-cases, by-test, ne-test}
@@ -28,6 +28,19 @@ some-e (suc n) test t =
     (λ u. (suc n, omega arith, omega arith, u))
     (λ u. let m = some-e n test u in (m .0, m .1, omega (arith, m .2), m .3))
     (or-cases (test (suc n)) (someMachine n test) t)
+
+-- No machine passes the test.
+pub none-e : (n : ℕ) (test : Machine → Bool) → T (not (someMachine n test))
+    → (i : Machine) → 1 ≤ i → i ≤ n → T (not (test i))
+none-e n test t i l h =
+    by-test (test i) (λ u. absurd (T-not (someMachine n test) t (some-i n test i l h u))) (λ u. u)
+
+pub none-i : (n : ℕ) (test : Machine → Bool) → ((i : Machine) → 1 ≤ i → i ≤ n → T (not (test i)))
+    → T (not (someMachine n test))
+none-i n test f =
+    by-test (someMachine n test)
+    (λ u. let m = some-e n test u in absurd (T-not (test (m .0)) (f (m .0) (m .1) (m .2)) (m .3)))
+    (λ u. u)
 
 -- Every machine passes the test.
 pub every-e : (n : ℕ) (test : Machine → Bool) → T (everyMachine n test) → (i : Machine) → 1 ≤ i → i ≤ n → T (test i)

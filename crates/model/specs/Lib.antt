@@ -3,6 +3,7 @@ pub mod Schedule
 pub mod Operations
 pub mod Sharers
 pub mod OneLocation
+pub mod Goes
 pub mod Words
 pub mod Meaning
 pub mod MarkedLogs

@@ -2,13 +2,14 @@
 ghost use mathlib.Core.Path.{_≡_};
 ghost use mathlib.Core.Bool.{_&&_};
 ghost use Prim.Native.Nat.{_≤_};
-ghost use Rattle.model.specs.Cxl0.{isMachine, isLocation, owner};
+ghost use Rattle.model.specs.Cxl0.{isMachine, isLocation, owner, initial};
 ghost use Rattle.model.specs.Meaning.{topologyOf, ownersFit, withinLimits};
 use super::LOCATIONS;
 use super::Location;
 use super::MACHINES;
 use super::Machine;
 use super::Topology;
+use super::codes::bit;
 
 impl Topology {
     // Each location is owned by one of the machines.
@@ -56,7 +57,7 @@ impl Topology {
     }
 
     // The owner of a location, or machine 0, which is none.
-    pub(crate) fn owner(self, x: Location) -> Machine
+    pub fn owner(self, x: Location) -> Machine
         ensures { λ r. ⌜ r .0 ≡ owner (topologyOf self) (x .0) ⌝ }
     {
         if self.is_location(x) {
@@ -66,6 +67,21 @@ impl Topology {
         } else {
             Machine(0)
         }
+    }
+
+    // Machine i's memory is persistent.
+    pub fn is_persistent(self, i: Machine) -> bool
+        ensures { λ r. ⌜ r ≡ topologyOf self .persistent (i .0) ⌝ }
+    {
+        let persistent = self.persistent;
+        persistent & bit(i) != 0
+    }
+
+    // The value of a location's memory at the start, and after a crash that clears it.
+    pub fn initial(self, x: Location) -> u32
+        ensures { λ r. ⌜ r ≡ initial (topologyOf self) (x .0) ⌝ }
+    {
+        0
     }
 
     // Within the limits, with this machine and this location.

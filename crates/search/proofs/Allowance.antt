@@ -19,7 +19,8 @@ use Rattle.search.specs.Allowance.{allowance}
 abbrev adds : Location → Event → ℕ
 adds x e = cond (eventAt x e) (gain (event e)) 0
 
-allowance-cons : (x : Location) (e : Event) (es : List Event)
+-- An event and the events after it allow for what they allow for apart.
+pub allowance-cons : (x : Location) (e : Event) (es : List Event)
     → allowance x (e ∷ es) ≡ adds x e + allowance x es
 unfolding allowance count gain
 allowance-cons x e es =

@@ -17,7 +17,7 @@ ghost use Rattle.verdict_file.specs.Writing.{allowedBy, writable, put};
 const WORD_END: u64 = 0x100_0000;
 
 // The longest file has room in `length` bytes from the offset on.
-pub(crate) fn has_room(length: usize, offset: usize) -> bool
+pub fn has_room(length: usize, offset: usize) -> bool
     ensures { λ r. ⌜ r ≡ leb (offset + fileMost) length ⌝ }
 {
     if length < offset {

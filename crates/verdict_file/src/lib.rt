@@ -2,7 +2,7 @@
 // offset, or change nothing; `read_schedule` accepts exactly the files that say allowed and fit a log, and
 // `step_at` hands out their steps. specs/Files.antt has the bytes, specs/Schedules.antt what they give.
 mod checking;
-mod filling;
+pub mod filling;
 
 use log::Refusal;
 use model::Location;

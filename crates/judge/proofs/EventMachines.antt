@@ -1,0 +1,50 @@
+-- The events of a system of at most six machines are by machines 1 to 6.
+use Prim.Native.Nat.{ℕ, zero, suc, _+_, _≤_, _<_}
+use native.Mathlib.Nat.{le-of-suc-le-suc, not-suc-le-zero, add-zero, zero-add}
+use native.Mathlib.Omega.{arith}
+use mathlib.Core.Path.{_≡_}
+use mathlib.Core.Bool.{_&&_}
+use mathlib.Core.List.{List, map}
+use lib.Dec.{T}
+use Rattle.model.specs.Cxl0.{Machine, Location, Topology, isMachine, isLocation, named, allNamed, event}
+use Rattle.model.specs.Cxl0.{Event, LStore, RStore, MStore, Load, LFlush, RFlush, Crash}
+use Rattle.model.proofs.Tests.{and-l, and-r}
+use Rattle.model.proofs.Expand.{machine-bounds}
+use Rattle.masks.specs.Sets.{OneToSix}
+use Rattle.search.specs.Scratch.{eventIn, eventsFrom, eventsIn}
+use Rattle.search.specs.Sites.{machineOf}
+
+module _ (sys : Topology) (few : sys .machines ≤ 6) where
+  by : (i : Machine) → T (isMachine sys i) → OneToSix i
+  by i t = let b = machine-bounds sys i t in (b .0, omega arith)
+
+  at : (i : Machine) (x : Location) → T (isMachine sys i && isLocation sys x) → OneToSix i
+  at i x t = by i (and-l (isMachine sys i) (isLocation sys x) t)
+
+  one-machine : (e : Event) → T (named sys (event e)) → OneToSix (machineOf e)
+  unfolding named
+  one-machine (LStore i x v) t = at i x t
+  one-machine (RStore i x v) t = at i x t
+  one-machine (MStore i x v) t = at i x t
+  one-machine (Load i x v) t = at i x t
+  one-machine (LFlush i x) t = at i x t
+  one-machine (RFlush i x) t = at i x t
+  one-machine (Crash i) t = by i t
+
+  machines-from : (w : List ℕ) (j m : ℕ) → T (allNamed sys (map event (eventsFrom w j m)))
+      → (k : ℕ) → k < m → OneToSix (machineOf (eventIn w (j + k)))
+  unfolding eventsFrom allNamed
+  machines-from w j zero t k h = absurd (not-suc-le-zero h)
+  machines-from w j (suc m) t zero h =
+      let rest = allNamed sys (map event (eventsFrom w (suc j) m)) in
+      rw (add-zero j) (one-machine (eventIn w j) (and-l (named sys (event (eventIn w j))) rest t))
+  machines-from w j (suc m) t (suc k) h =
+      let rest = allNamed sys (map event (eventsFrom w (suc j) m)) in
+      let next : suc j + k ≡ j + suc k = omega arith in
+      rw (← next)
+      (machines-from w (suc j) m (and-r (named sys (event (eventIn w j))) rest t) k (le-of-suc-le-suc h))
+
+  -- Each of the first m events is by one of machines 1 to 6.
+  pub machines : (w : List ℕ) (m : ℕ) → T (allNamed sys (map event (eventsIn w m)))
+      → (j : ℕ) → j < m → OneToSix (machineOf (eventIn w j))
+  machines w m t j h = rw zero-add at (machines-from w 0 m t j h)

@@ -1,0 +1,15 @@
+pub mod Described
+pub mod Cursors
+pub mod DecodingLoop
+pub mod EventMachines
+pub mod Searching
+pub mod Limiting
+pub mod Verdicts
+pub mod Allowances
+pub mod Fitting
+pub mod Gathering
+pub mod Appending
+pub mod Collecting
+pub mod Issuing
+pub mod Soundness
+pub mod Deciding

@@ -1,0 +1,26 @@
+-- `judge::sites::site_of` meets its contract: the site has what the topology says.
+use mathlib.Core.Path.{refl, ap}
+use mathlib.Core.Bool.{not}
+use borrow.Author.Needs.{needs}
+use Rattle.judge.proofs.Described.{described}
+use Rattle.judge.proofs.sites.site_of.Statement.{statement}
+use Rattle.judge.proofs.sites.site_of.Tie as tie
+
+owner-requires : tie.Need-owner-requires
+owner-requires c κs = search needs
+
+is-persistent-requires : tie.Need-is-persistent-requires
+is-persistent-requires c κs = search needs
+
+initial-requires : tie.Need-initial-requires
+initial-requires c κs = search needs
+
+returns : tie.Need-returns
+returns c =
+    let start = c .before .before .before in
+    let owned = c .before .before .owner .ensures in
+    let volatile = ap not (c .before .is-persistent .ensures) in
+    (described (start .args .t) (start .pre .0) (start .pre .1) owned volatile (c .initial .ensures), refl)
+
+pub site-of-spec : {M : Type 1} → statement M
+site-of-spec = tie.close (tie.spec owner-requires is-persistent-requires initial-requires returns)

@@ -1,0 +1,55 @@
+// The verdict on the events in the scratch area, and its file.
+use crate::Judged;
+use crate::arranging::arrange;
+use crate::limits::limit;
+use model::Topology;
+use search::scratch::SORTED;
+use verdict_file::Written;
+use verdict_file::write_allowed;
+use verdict_file::write_impossible;
+ghost use mathlib.Core.Path.{_≡_};
+ghost use mathlib.Core.Bool.{true, _&&_};
+ghost use lib.ListN.{length};
+ghost use Rattle.model.specs.Meaning.{topologyOf};
+ghost use Rattle.verdict_file.specs.Files.{impossible};
+ghost use Rattle.verdict_file.specs.Writing.{allowedBy, writable, room};
+ghost use Rattle.search.specs.Scratch.{eventsIn};
+ghost use Rattle.judge.specs.Parts.{Searchable};
+ghost use Rattle.judge.specs.Settling.{Issued, Settled};
+
+// Writes the file that says impossible and tells of it.
+fn issue_impossible(out: &mut [u8], offset: usize, event: u8) -> Judged
+    ensures { λ r. ⌜ Issued (room (now (out .entry)) offset) (impossible event)
+        (now (out .entry)) offset (now (out .exit)) r ⌝ }
+{
+    match write_impossible(out, offset, event) {
+        Written::Length(n) => Judged::Impossible(event, n),
+        Written::Refused(why) => Judged::Refused(why),
+    }
+}
+
+// Writes the file that says allowed, with these steps, and tells of it.
+fn issue_allowed(out: &mut [u8], offset: usize, steps: &[u64]) -> Judged
+    ensures { λ r. ⌜ Issued (room (now (out .entry)) offset && writable (now (steps .entry)))
+        (allowedBy (now (steps .entry))) (now (out .entry)) offset (now (out .exit)) r ⌝ }
+{
+    match write_allowed(out, offset, steps) {
+        Written::Length(n) => Judged::Allowed(steps.len(), n),
+        Written::Refused(why) => Judged::Refused(why),
+    }
+}
+
+// Issues a verdict on the events in the scratch area.
+pub fn settle(t: Topology, events: usize, out: &mut [u8], offset: usize, w: &mut [u64]) -> Judged
+    requires { ⌜ (room (now out) offset ≡ true) × Searchable t events (now w) ⌝ }
+    ensures { λ r. ⌜ Settled (topologyOf t) (eventsIn (now (w .entry)) events)
+        (now (out .entry)) offset (now (out .exit)) r ⌝ }
+    ensures { λ r. ⌜ length (now (w .exit)) ≡ length (now (w .entry)) ⌝ }
+{
+    let possible = limit(w, t, events);
+    if possible < events {
+        return issue_impossible(out, offset, (possible + 1) as u8);
+    }
+    let steps = arrange(w, t, events);
+    issue_allowed(out, offset, &w[SORTED..SORTED + steps])
+}

@@ -1,0 +1,18 @@
+-- How a state goes to another by a list of events: the arrow of source 000, section 3.3, in which its
+-- Proposition 1 is stated.
+use mathlib.Core.Path.{_≡_}
+use mathlib.Core.Bool.{_&&_}
+use mathlib.Core.List.{List}
+use lib.Dec.{T}
+use Rattle.model.specs.Cxl0.{Location, Topology, State, Event, Action, runs, after, events}
+use Rattle.model.specs.Cxl0.{count, isStore}
+use Rattle.model.specs.OneLocation.{eventAt}
+
+-- From s, actions that are each possible in their turn lead to s'; their events are exactly these in this
+-- order, with any silent steps, or none, before, between and after them.
+abbrev pub Goes : Topology → List Event → State → State → Type 0
+Goes sys es s s' = (acts : List Action) × (events acts ≡ es) × T (runs sys acts s) × (after sys acts s ≡ s')
+
+-- The events have no store of x.
+abbrev pub NoStore : Location → List Event → Type 0
+NoStore x es = count (λ e. eventAt x e && isStore e) es ≡ 0

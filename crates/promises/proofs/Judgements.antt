@@ -1,0 +1,163 @@
+-- What the judge's contract says of its answer and of the areas that it was lent.
+use Prim.Native.Nat.{ℕ, _+_, _-_, _≤_}
+use native.Mathlib.Omega.{arith}
+use mathlib.Core.Path.{_≡_, refl, sym, ap, _∙_, subst}
+use mathlib.Core.Logic.{_↔_}
+use mathlib.Core.Bool.{true, false}
+use mathlib.Core.List.{List, _++_, append-assoc}
+use lib.Dec.{leb→le}
+use lib.ListN.{length, take, drop, length-append, length-take}
+use lib.Seq.{take-at, drop-at, length-take-le}
+use Rattle.model.specs.Cxl0.{HasRun}
+use Rattle.model.specs.Schedule.{Step}
+use Rattle.model.proofs.Tests.{true→T}
+use Rattle.log.specs.Records.{Records, systemOf}
+use Rattle.log.specs.Reading.{accepted, rejected, readLog}
+use Rattle.log.specs.Recording as recording
+use Rattle.log.specs.Recording.{recorded, written}
+use Rattle.verdict_file.specs.Files.{Verdict, allowed, impossible, fileOf}
+use Rattle.verdict_file.specs.Writing.{room, put}
+use Rattle.verdict_file.proofs.Put.{put-there}
+use Rattle.replay.specs.Replaying as replaying
+use Rattle.replay.specs.Replaying.{replayLog}
+use Rattle.judge.specs.Clearing.{zeros}
+use Rattle.judge.specs.Judging as judging
+use Rattle.judge.specs.Judging.{Answer, gives, refused, answerOf, Outcome, outcomeOf, refusal, verdict, areasFit}
+use Rattle.judge.specs.Judging.{Right, JudgesLog, Judges}
+use Rattle.judge.specs.declared.Judged.{Judged}
+use Rattle.judge.proofs.Deciding.{fit-out}
+use Rattle.promises.proofs.Verdicts as verdicts
+
+abbrev pub told : Verdict → Answer
+told = judging.told
+
+-- A call of `record` that refuses leaves the buffer as it was.
+pub record-untouched : (buf : List ℕ) (used tag : ℕ) (payload : List ℕ) (number : ℕ)
+    → recorded buf used tag payload ≡ recording.rejected number
+    → written (recorded buf used tag payload) buf used tag payload ≡ buf
+record-untouched buf used tag payload number e = rw e
+
+-- Bytes put at a position leave those before it and those after them.
+module _ (l : List ℕ) (at : ℕ) (bytes : List ℕ) (h : at ≤ length l) where
+  put-before : take at (put l at bytes) ≡ take at l
+  unfolding put
+  put-before =
+      ap (take at) (append-assoc (take at l) bytes (drop (at + length bytes) l))
+      ∙ take-at (take at l) (bytes ++ drop (at + length bytes) l) at (length-take-le at l h)
+
+  put-after : drop (at + length bytes) (put l at bytes) ≡ drop (at + length bytes) l
+  unfolding put
+  put-after =
+      drop-at (take at l ++ bytes) (drop (at + length bytes) l) (at + length bytes)
+      (length-append (take at l) bytes ∙ ap (λ (n : ℕ). n + length bytes) (length-take-le at l h))
+
+module _ (s out : List ℕ) (offset : ℕ) (scratch : List ℕ) (j : Judged) (out' scratch' : List ℕ)
+    (judged : Judges s out offset scratch (outcomeOf j out' scratch')) where
+  -- A refusal, area by area.
+  untouched : (number : ℕ) → outcomeOf j out' scratch' ≡ refusal number out scratch
+      → (answerOf j ≡ refused number) × (out' ≡ out) × (scratch' ≡ scratch)
+  unfolding refusal
+  untouched number e =
+      (ap (λ (o : Outcome). o .answer) e, ap (λ (o : Outcome). o .out) e, ap (λ (o : Outcome). o .scratch) e)
+
+  pub judge-short : areasFit out offset scratch ≡ false
+      → (answerOf j ≡ refused 1) × (out' ≡ out) × (scratch' ≡ scratch)
+  unfolding Judges
+  judge-short e = untouched 1 (rw (e, Judges) at judged)
+
+  module _ (fit : areasFit out offset scratch ≡ true) where
+    by-log : JudgesLog s (readLog s) out offset scratch (outcomeOf j out' scratch')
+    unfolding Judges
+    by-log = rw (fit, Judges) at judged
+
+    pub judge-refused : (number : ℕ) → readLog s ≡ rejected number
+        → (answerOf j ≡ refused number) × (out' ≡ out) × (scratch' ≡ scratch)
+    unfolding JudgesLog
+    judge-refused number e = untouched number (rw e at by-log)
+
+    module _ (r : Records) (read : readLog s ≡ accepted r) where
+      given : (v : Verdict) × Right s r v × (outcomeOf j out' scratch' ≡ verdict v out offset scratch)
+      unfolding JudgesLog
+      given = rw read at by-log
+
+      abbrev v : Verdict
+      v = given .0
+
+      right : Right s r v
+      right = given .1
+
+      says : answerOf j ≡ told v
+      unfolding verdict
+      says = ap (λ (o : Outcome). o .answer) (given .2)
+
+      file : out' ≡ put out offset (fileOf v)
+      unfolding verdict
+      file = ap (λ (o : Outcome). o .out) (given .2)
+
+      inside : offset ≤ length out
+      unfolding room
+      inside =
+          omega (arith, leb→le (offset + 1544) (length out) (true→T (fit-out out offset scratch fit)))
+
+      stands : take (length (fileOf v)) (drop offset out') ≡ fileOf v
+      stands = ap (λ (l : List ℕ). take (length (fileOf v)) (drop offset l)) file ∙ put-there out offset (fileOf v) inside
+
+      -- So many bytes of the output from the offset on.
+      abbrev from-offset : ℕ → List ℕ
+      from-offset n = take n (drop offset out')
+
+      pub judge-writes : (v : Verdict)
+          × (answerOf j ≡ told v)
+          × (take (length (fileOf v)) (drop offset out') ≡ fileOf v)
+          × (take offset out' ≡ take offset out)
+          × (drop (offset + length (fileOf v)) out' ≡ drop (offset + length (fileOf v)) out)
+          × (scratch' ≡ zeros (length scratch))
+      unfolding verdict
+      judge-writes = (
+        v,
+        says,
+        stands,
+        ap (take offset) file ∙ put-before out offset (fileOf v) inside,
+        ap (drop (offset + length (fileOf v))) file ∙ put-after out offset (fileOf v) inside,
+        ap (λ (o : Outcome). o .scratch) (given .2),
+      )
+
+      pub allowed-exactly : ((steps len : ℕ) × (answerOf j ≡ gives 1 0 steps len)) ↔ HasRun (systemOf r) (r .events)
+      allowed-exactly = rw says (verdicts.allowed-exactly s r read v right)
+
+      pub impossible-exactly : (e : ℕ)
+          → ((len : ℕ) × (answerOf j ≡ gives 0 e 0 len))
+          ↔ (¬ HasRun (systemOf r) (take e (r .events)) × HasRun (systemOf r) (take (e - 1) (r .events)))
+      impossible-exactly e = rw says (verdicts.impossible-exactly s r read v right e)
+
+      -- A verdict that says allowed, and its file.
+      module _ (steps len : ℕ) (e : answerOf j ≡ gives 1 0 steps len) where
+        found : (ps : List Step) × (v ≡ allowed ps) × (length ps ≡ steps) × (length (fileOf v) ≡ len)
+        found = verdicts.told-allowed v (sym says ∙ e)
+
+        bytes : take len (drop offset out') ≡ fileOf (allowed (found .0))
+        bytes = ap from-offset (sym (found .3)) ∙ stands ∙ ap fileOf (found .1)
+
+        right-steps : Right s r (allowed (found .0))
+        right-steps = rw (found .1) at right
+
+        pub allowed-replays : replayLog s (take len (drop offset out')) ≡ replaying.Answer.yes
+        unfolding Right
+        allowed-replays = rw bytes right-steps
+
+        pub step-count : (ps : List Step)
+            × (take len (drop offset out') ≡ fileOf (allowed ps))
+            × (length ps ≡ steps)
+            × (steps ≤ 256)
+        step-count = (
+          found .0,
+          bytes,
+          found .2,
+          omega (arith, found .2, verdicts.few-steps s r read (found .0) right-steps),
+        )
+
+      pub impossible-file : (e len : ℕ) → answerOf j ≡ gives 0 e 0 len
+          → take len (drop offset out') ≡ fileOf (impossible e)
+      impossible-file e len t =
+          let (same, long) = verdicts.told-impossible v (sym says ∙ t) in
+          ap from-offset (sym long) ∙ stands ∙ ap fileOf same
