@@ -1,19 +1,18 @@
 -- What replay's answers mean: yes exactly where events and schedule are a run, and no after the right number
 -- of events.
-use Prim.Native.Nat.{ℕ, zero, suc, _+_}
-use mathlib.Core.Path.{_≡_, refl, sym, ap, _∙_, subst}
+use Prim.Native.Nat.{ℕ, suc, _+_}
+use mathlib.Core.Path.{_≡_, refl, sym, ap, subst}
 use mathlib.Core.Logic.{_↔_}
 use mathlib.Core.Bool.{Bool, true, false, cond, not, _&&_}
 use mathlib.Core.List.{List, [], _∷_, _++_}
 use native.Mathlib.Omega.{arith}
 use lib.Dec.{T}
-use lib.ListN.{length, take}
+use lib.ListN.{length}
 use Rattle.model.specs.Cxl0.{Topology, State, start, Event, Action, event, silent, possible, next}
 use Rattle.model.specs.Cxl0.{runs, after, Run, events}
 use Rattle.model.specs.Schedule.{Step, weave}
-use Rattle.model.proofs.Weaving.{events-weave}
 use Rattle.model.proofs.Tests.{by-test, and-i, T→true, not→false}
-use Rattle.replay.specs.Replaying.{Answer, yes, no, refused, counted, replayFrom, replayed}
+use Rattle.replay.specs.Replaying.{Answer, yes, no, counted, replayFrom, replayed}
 
 yes≢no : (n : ℕ) → Answer.no n ≡ Answer.yes → ⊥
 yes≢no n e = let z : _≡_ {A = ℕ} 0 1 = cc in omega arith
@@ -83,7 +82,8 @@ later sys n k (silent a) acts s t (j, c, h) = (
 
 -- The first action is not possible.
 at-once : (sys : Topology) (n k : ℕ) (a : Action) (acts : List Action) (s : State)
-    → T (not (possible sys a s)) → Answer.no n ≡ Answer.no k → (j : ℕ) × (n + j ≡ k) × Stops sys (a ∷ acts) s j
+    → T (not (possible sys a s)) → Answer.no n ≡ Answer.no k
+    → (j : ℕ) × (n + j ≡ k) × Stops sys (a ∷ acts) s j
 unfolding runs after events
 at-once sys n k a acts s t e =
     let same : n ≡ k = cc in (

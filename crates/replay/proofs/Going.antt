@@ -1,0 +1,224 @@
+-- How a replay goes on: what is next in the log and the schedule, and what it comes to.
+use Prim.Native.Nat.{ℕ, zero, suc, _+_, _-_, _≤_, _<_}
+use native.Mathlib.Numerals.{add-one}
+use native.Mathlib.Omega.{arith}
+use mathlib.Core.Path.{_≡_, refl, sym, ap, _∙_, subst}
+use mathlib.Core.Logic.{_≢_}
+use mathlib.Core.Bool.{Bool, true, false, cond, _&&_}
+use mathlib.Core.List.{List, [], _∷_}
+use mathlib.Core.Option.{none, some, Option·some-injective}
+use lib.Dec.{T, eqb}
+use lib.ListN.{length, drop, getD}
+use Rattle.model.specs.Cxl0 as cxl0
+use Rattle.model.specs.Cxl0.{Event, Action, event, silent, Propagate, WriteBack, possible, next}
+use Rattle.model.specs.Operations.{isOperation, eventOf}
+use Rattle.model.specs.Schedule.{Step, silentOf, steps, weaveFrom, inOrder}
+use Rattle.model.specs.Meaning.{topologyOf, stateOf, withinLimits, Outcome, attempt, attemptEvent}
+use Rattle.model.specs.declared.Topology.{Topology}
+use Rattle.model.specs.declared.Event as model
+use Rattle.model.proofs.Tests.{T→true}
+use Rattle.model.proofs.Weaving.{inOrder-cons, weave-due, weave-event}
+use Rattle.log.specs.Fields.{payloadIn}
+use Rattle.log.specs.Cursors.{eventIn, eventAt, Events, next-event}
+use Rattle.log.specs.declared.EventAt.{EventAt}
+use Rattle.log.proofs.Elements.{no-elements}
+use Rattle.verdict_file.specs.Schedules.{stepAt, readSteps}
+use Rattle.verdict_file.proofs.Cursor.{walks, stops}
+use Rattle.replay.specs.Replaying.{Answer, counted, replayFrom}
+use Rattle.replay.specs.Places.{Stands, Goes, Took}
+use Rattle.replay.specs.declared.walking.Place.{Place}
+use Rattle.replay.specs.declared.walking.Went.{Went}
+
+-- A step of a machine, which is never 0, propagates its copy.
+pub propagates : (p : Step) → p .machine ≢ 0 → silentOf p ≡ Propagate (p .machine) (p .location)
+unfolding silentOf
+propagates p h = go (p .machine) h
+  where
+    go : (i : ℕ) → i ≢ 0
+        → elim i [ zero ↦ WriteBack (p .location) | suc i ↦ Propagate (suc i) (p .location) ]
+        ≡ Propagate i (p .location)
+    go zero h = absurd (h refl)
+    go (suc i) h = refl
+
+-- ---- one action
+
+two-tests : true ≡ false → ⊥
+two-tests e = let z : _≡_ {A = ℕ} 0 1 = cc in omega arith
+
+-- What comes of an action: its test decides between going on and the answer no.
+module _ (s : cxl0.State) (more : cxl0.State → Answer) (halt a : Answer) where
+  decides : (b : Bool) (o : Outcome) (after : cxl0.State)
+      → o ≡ cond b (record { possible = true; state = after }) (record { possible = false; state = s })
+      → cond b (more after) halt ≡ a
+      → (o .possible ≡ true → more (o .state) ≡ a) × (o .possible ≡ false → halt ≡ a)
+  decides true o after e h =
+      (λ _. rw e h, λ f. absurd (two-tests (sym (ap (λ (x : Outcome). x .possible) e) ∙ f)))
+  decides false o after e h =
+      (λ f. absurd (two-tests (sym f ∙ ap (λ (x : Outcome). x .possible) e)), λ _. h)
+
+-- An action that comes first: replay goes on after it if it is possible, and if not the answer is no.
+one-action : (t : Topology) → T (withinLimits t)
+    → (n : ℕ) (act : Action) (acts : List Action) (s : cxl0.State) (a : Answer) (o : Outcome)
+    → replayFrom (topologyOf t) n (act ∷ acts) s ≡ a → o ≡ attempt t act s
+    → (o .possible ≡ true → replayFrom (topologyOf t) (counted n act) acts (o .state) ≡ a)
+    × (o .possible ≡ false → Answer.no n ≡ a)
+unfolding replayFrom attempt
+one-action t w n act acts s a o e h =
+    decides s (replayFrom (topologyOf t) (counted n act) acts) (Answer.no n) a
+    (possible (topologyOf t) act s) o (next (topologyOf t) act s)
+    (rw (T→true {b = withinLimits t} w) at h) e
+
+-- ---- what is next
+
+-- Only an operation's event is found.
+operation-found : (s : List ℕ) (at : ℕ) (e : model.Event) (i : ℕ) → eventAt s at ≡ EventAt.Found e i
+    → isOperation (e .operation) ≡ true
+unfolding eventAt eventIn
+operation-found s at e i found =
+    let p = payloadIn (drop at s) in
+    go (eqb (length p) 5 && eqb (getD (drop at s) 0 0) 0x03) (isOperation (getD p 0 0)) _ refl found
+  where
+    go : (b c : Bool) (d : model.Event) → isOperation (d .operation) ≡ c
+        → cond (b && c) (EventAt.Found d (at + 3 + 5)) EventAt.Absent ≡ EventAt.Found e i
+        → isOperation (e .operation) ≡ true
+    go true true d o h = let same : d ≡ e = cc in rw (← same) o
+    go true false d o h = let z : _≡_ {A = ℕ} 0 1 = cc in absurd (omega arith)
+    go false c d o h = let z : _≡_ {A = ℕ} 0 1 = cc in absurd (omega arith)
+
+-- One event is found at a position, and then it is not absent.
+pub one-found : {d e : model.Event} {i j : ℕ} → EventAt.Found d i ≡ EventAt.Found e j → (d ≡ e) × (i ≡ j)
+one-found h = (cc, cc)
+
+pub not-absent : {e : model.Event} {j : ℕ} → EventAt.Absent ≡ EventAt.Found e j → ⊥
+not-absent h = let z : _≡_ {A = ℕ} 0 1 = cc in omega arith
+
+-- What is asked of an operation's event is what is asked of the event.
+attempted : (t : Topology) (e : model.Event) (s : cxl0.State) → isOperation (e .operation) ≡ true
+    → attemptEvent t e s
+    ≡ attempt t (event (eventOf (e .operation) (e .machine .0) (e .location .0) (e .value))) s
+unfolding attemptEvent
+attempted t e s o = rw o
+
+module _ {s f : List ℕ} {t : Topology} {n : ℕ} {a : Answer} {k : ℕ} {w : Place}
+    (g : Stands s f t n a (suc k) w) where
+  -- Where an action is next, and these events and steps come after it, replay goes on from them or stops.
+  goes : (act : Action) (es : List Event) (ps : List Step) (i j end least : ℕ) (r : Went)
+      → weaveFrom (w .passed) (g .es) (g .ps) ≡ act ∷ weaveFrom (counted (w .passed) act) es ps
+      → Events s i es end → readSteps (drop j f) ≡ some ps → length es + length ps ≡ k
+      → counted (w .passed) act + length es ≡ n → T (inOrder least n ps)
+      → Took t (attempt t act (stateOf t (w .state))) (counted (w .passed) act) i j r
+      → Goes s f t n a k w r
+  goes act es ps i j end least r woven events steps ahead all order took =
+      let answer = rw woven at (g .answer) in
+      let one = one-action t (g .limits) (w .passed) act (weaveFrom (counted (w .passed) act) es ps)
+      (stateOf t (w .state)) a (attempt t act (stateOf t (w .state))) answer refl in
+      record {
+        on = λ yes. record {
+          limits = g .limits;
+          es = es;
+          ps = ps;
+          end = end;
+          events = subst (λ (at : ℕ). Events s at es end) (sym (took .event)) events;
+          steps = rw (took .step) steps;
+          ahead = ahead;
+          all = rw (took .passed) all;
+          least = least;
+          order = order;
+          answer = rw (took .passed, took .state) (one .0 (sym (took .possible) ∙ yes));
+        };
+        stop = λ no. one .1 (sym (took .possible) ∙ no);
+      }
+
+  -- A step that is due.
+  pub step-goes : (p : Step) (j : ℕ) (r : Went) → stepAt f (w .step) ≡ some (p, j) → p .before ≤ w .passed
+      → Took t (attempt t (silent (silentOf p)) (stateOf t (w .state))) (w .passed) (w .event) j r
+      → Goes s f t n a k w r
+  step-goes p j r found due took = go (g .ps) refl
+    where
+      go : (ps : List Step) → g .ps ≡ ps → Goes s f t n a k w r
+      go [] e =
+          let last = stops f (w .step) (rw e at (g .steps)) in
+          let z : _≡_ {A = ℕ} 0 1 = cc in
+          absurd (omega arith)
+      go (q ∷ qs) e =
+          let (first, rest) = walks f (w .step) (rw e at (g .steps)) in
+          let both = Option·some-injective (q, w .step + 6) (p, j) (sym first ∙ found) in
+          let same : q ≡ p = ap (λ (x : Step × ℕ). x .0) both in
+          let position : w .step + 6 ≡ j = ap (λ (x : Step × ℕ). x .1) both in
+          let order = inOrder-cons (g .least) n q qs .0 (rw e at (g .order)) .2 in
+          goes (silent (silentOf p)) (g .es) qs (w .event) j (g .end) (q .before) r
+          (rw (e, same) (weave-due (w .passed) (g .es) p qs due))
+          (g .events) (rw (← position) rest) (omega (arith, g .ahead, ap length e)) (g .all) order took
+
+  -- The event, where no step is due.
+  event-next : T (inOrder (suc (w .passed)) n (g .ps)) → 1 ≤ length (g .es) → (r : Went)
+      → ((e : model.Event) (i : ℕ) → eventAt s (w .event) ≡ EventAt.Found e i → w .passed < n
+      → Took t (attemptEvent t e (stateOf t (w .state))) (w .passed + 1) i (w .step) r)
+      → Goes s f t n a k w r
+  event-next later more r took = go (w .event) (g .es) (g .end) (g .events) refl refl
+    where
+      go : (at : ℕ) (es : List Event) (end : ℕ) → Events s at es end → w .event ≡ at → g .es ≡ es
+          → Goes s f t n a k w r
+      go at [] end events x y = absurd (omega (arith, ap length y))
+      go at (_ ∷ es) end (next-event e i found events) x y =
+          let v = eventOf (e .operation) (e .machine .0) (e .location .0) (e .value) in
+          let low : w .passed < n = omega (arith, g .all) in
+          let asked = attempted t e (stateOf t (w .state)) (operation-found s at e i found) in
+          goes (event v) es (g .ps) i (w .step) end (g .least) r
+          (rw y (weave-event (w .passed) n v es (g .ps) later))
+          events (g .steps)
+          (omega (arith, g .ahead, ap length y)) (omega (arith, g .all, ap length y)) (g .order)
+          (rw (add-one, asked) at (took e i (rw x found) low))
+
+  -- What the event comes to, where there is one.
+  abbrev pub Event-took : Went → Type 0
+  Event-took r =
+      (e : model.Event) (i : ℕ) → eventAt s (w .event) ≡ EventAt.Found e i → w .passed < n
+      → Took t (attemptEvent t e (stateOf t (w .state))) (w .passed + 1) i (w .step) r
+
+  -- The event, where the next step comes later.
+  pub event-goes : (p : Step) (j : ℕ) (r : Went) → stepAt f (w .step) ≡ some (p, j) → w .passed < p .before
+      → Event-took r → Goes s f t n a k w r
+  event-goes p j r found later took = go (g .ps) refl
+    where
+      go : (ps : List Step) → g .ps ≡ ps → Goes s f t n a k w r
+      go [] e =
+          let last = stops f (w .step) (rw e at (g .steps)) in
+          let z : _≡_ {A = ℕ} 0 1 = cc in
+          absurd (omega arith)
+      go (q ∷ qs) e =
+          let (first, rest) = walks f (w .step) (rw e at (g .steps)) in
+          let both = Option·some-injective (q, w .step + 6) (p, j) (sym first ∙ found) in
+          let same : q ≡ p = ap (λ (x : Step × ℕ). x .0) both in
+          let order = inOrder-cons (g .least) n q qs .0 (rw e at (g .order)) in
+          let after : suc (w .passed) ≤ q .before = rw same later in
+          event-next (rw e (inOrder-cons (suc (w .passed)) n q qs .1 (after, order .1, order .2)))
+          (omega (arith, g .all, order .1)) r took
+
+  -- The event, where no step is left.
+  pub event-goes-last : (r : Went) → stepAt f (w .step) ≡ none → Event-took r → Goes s f t n a k w r
+  unfolding inOrder
+  event-goes-last r absent took = go (g .ps) refl
+    where
+      go : (ps : List Step) → g .ps ≡ ps → Goes s f t n a k w r
+      go [] e = event-next (rw e tt) (omega (arith, g .ahead, ap length e)) r took
+      go (q ∷ qs) e =
+          let (first, rest) = walks f (w .step) (rw e at (g .steps)) in
+          let z : _≡_ {A = ℕ} 0 1 = cc in
+          absurd (omega arith)
+
+-- Where something is ahead, it is one thing and what remains.
+pub one-ahead : {s f : List ℕ} {t : Topology} {n : ℕ} {a : Answer} {k : ℕ} {w : Place}
+    → Stands s f t n a k w → 0 < k → Stands s f t n a (suc (k - 1)) w
+one-ahead {s} {f} {t} {n} {a} {k} {w} g h =
+    let same : k ≡ suc (k - 1) = omega arith in
+    subst (λ (l : ℕ). Stands s f t n a l w) same g
+
+-- Where nothing is ahead, the answer is yes.
+pub stands-done : {s f : List ℕ} {t : Topology} {n : ℕ} {a : Answer} {k : ℕ} {w : Place}
+    → Stands s f t n a k w → k ≤ 0 → Answer.yes ≡ a
+unfolding replayFrom weaveFrom steps
+stands-done {t} {w} g h =
+    let no-events = no-elements (g .es) (omega (arith, g .ahead)) in
+    let no-steps = no-elements (g .ps) (omega (arith, g .ahead)) in
+    rw (no-events, no-steps) at (g .answer)

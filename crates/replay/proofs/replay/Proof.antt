@@ -1,0 +1,45 @@
+-- `replay` is `replayLog`: the log's refusal, or the replay of an accepted log.
+use mathlib.Core.Path.{sym, ap, _∙_}
+use Rattle.log.specs.Answers.{meaningOf}
+use Rattle.log.proofs.Heads.{accepted-head, refused-number}
+use Rattle.replay.specs.Replaying.{replayLog}
+use borrow.Author.Needs.{needs}
+use Rattle.replay.proofs.replay.Statement.{statement}
+use Rattle.replay.proofs.replay.Tie as tie
+
+read-requires : tie.Need-read-requires
+read-requires c κs = search needs
+
+enum-known-head : tie.Need-enum-known-head
+enum-known-head c = search needs
+
+replay-events-requires : tie.Need-replay-events-requires
+replay-events-requires c κs = search needs
+
+enum-known-why : tie.Need-enum-known-why
+enum-known-why c = search needs
+
+returns : tie.Need-returns
+unfolding replayLog
+returns c =
+    let h = c .before .before .before in
+    let told = ap meaningOf (sym (c .before .before .head .given .1)) ∙ h .before .read .ensures in
+    let (r, read, same) = accepted-head _ _ told in
+    rw read (c .replay-events .ensures r read same)
+
+returns-2 : tie.Need-returns-2
+unfolding replayLog
+returns-2 c =
+    let told = ap meaningOf (sym (c .before .why .given .1)) ∙ c .before .before .before .read .ensures in
+    rw (refused-number _ (c .before .why .given .0 .0) told)
+
+pub replay-spec : {M : Type 1} → statement M
+replay-spec =
+    tie.close
+    (tie.spec
+    read-requires
+    enum-known-head
+    replay-events-requires
+    enum-known-why
+    returns
+    returns-2)

@@ -1,0 +1,80 @@
+-- `replay_events` opens the log, reads the schedule and walks from the start.
+use native.Mathlib.Omega.{arith}
+use mathlib.Core.Path.{_≡_, refl, sym, ap, _∙_}
+use denote.Ref.{now}
+use Rattle.model.specs.Meaning.{topologyOf}
+use Rattle.log.specs.declared.Head.{Head}
+use Rattle.verdict_file.specs.Answers.{gives, scheduledOf}
+use Rattle.verdict_file.specs.Schedules.{readSchedule, counted}
+use Rattle.replay.specs.Replaying.{Answer}
+use Rattle.replay.proofs.Beginning.{steps-read, none-read, count-few}
+use Rattle.replay.proofs.Beginning.{stands-first, with-steps, with-none}
+use borrow.Author.Needs.{needs}
+use Rattle.replay.proofs.replay_events.Statement.{statement}
+use Rattle.replay.proofs.replay_events.Tie as tie
+
+open-requires : tie.Need-open-requires
+open-requires c κs = search needs
+
+read-schedule-requires : tie.Need-read-schedule-requires
+read-schedule-requires c κs = search needs
+
+enum-known-steps : tie.Need-enum-known-steps
+enum-known-steps c = search needs
+
+cast-ahead : tie.Need-cast-ahead
+cast-ahead c = search needs
+
+-- The count of steps is that of a schedule.
+told : (c : tie.After-steps)
+    → let a = c .before .before .before .before .before .before .before .args in
+    gives (c .steps .given .0 .0)
+    ≡ counted (readSchedule (topologyOf (c .before .before .before .before .«open» .result .topology))
+    (a .head .events) (now (a .schedule)))
+told c = ap scheduledOf (sym (c .steps .given .1)) ∙ c .before .before .read-schedule .ensures
+
+add-ahead : tie.Need-add-ahead
+add-ahead c = omega (arith, count-few _ _ _ _ (told (c .before .before)))
+
+start-requires : tie.Need-start-requires
+start-requires c κs = search needs
+
+walk-requires : tie.Need-walk-requires
+walk-requires c κs = search needs
+
+enum-known-why : tie.Need-enum-known-why
+enum-known-why c = search needs
+
+returns : tie.Need-returns
+returns c = λ r e h.
+    let b = c .before .before .before .before in
+    let first = b .before .before .before .before in
+    let opened = first .«open» .ensures r e h in
+    let events = ap (λ (k : Head). k .events) h in
+    let (ps, read, count) = steps-read _ _ (told b) in
+    let stands = stands-first _ ps _ opened read events (c .before .start .ensures) refl refl refl in
+    c .walk .ensures _ (rw count at stands) ∙ sym (with-steps r _ _ _ (opened .system) events ps read)
+
+returns-2 : tie.Need-returns-2
+returns-2 c = λ r e h.
+    let b = c .before .before .before in
+    let opened = b .before .before .«open» .ensures r e h in
+    let events = ap (λ (k : Head). k .events) h in
+    let told = ap scheduledOf (sym (c .before .why .given .1)) ∙ b .read-schedule .ensures in
+    let (none-left, number) = none-read _ _ told in
+    ap Answer.refused number ∙ sym (with-none r _ _ _ (opened .system) events none-left)
+
+pub replay-events-spec : {M : Type 1} → statement M
+replay-events-spec =
+    tie.close
+    (tie.spec
+    open-requires
+    read-schedule-requires
+    enum-known-steps
+    cast-ahead
+    add-ahead
+    start-requires
+    walk-requires
+    enum-known-why
+    returns
+    returns-2)

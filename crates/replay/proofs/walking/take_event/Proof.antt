@@ -1,0 +1,58 @@
+-- `take_event` comes to what the event comes to, and goes on to the next event.
+use native.Mathlib.Omega.{arith}
+use mathlib.Core.Path.{refl, sym, ap, _∙_}
+use Rattle.model.specs.Meaning.{Outcome, outcomeOf}
+use Rattle.replay.proofs.Going.{one-found, not-absent}
+use borrow.Author.Needs.{needs}
+use Rattle.replay.proofs.walking.take_event.Statement.{statement}
+use Rattle.replay.proofs.walking.take_event.Tie as tie
+
+returns : tie.Need-returns
+returns c = λ e next found low. absurd (omega arith)
+
+event-at-requires : tie.Need-event-at-requires
+event-at-requires c κs = search needs
+
+enum-known-e : tie.Need-enum-known-e
+enum-known-e c = search needs
+
+apply-requires : tie.Need-apply-requires
+apply-requires c κs = search needs
+
+add-t15 : tie.Need-add-t15
+add-t15 c = search needs
+
+enum-told : tie.Need-enum-told
+enum-told c = search needs
+
+returns-2 : tie.Need-returns-2
+unfolding outcomeOf
+returns-2 c = λ e next found low.
+    let a = c .before .before in
+    let h = a .before .before .before in
+    let (same, after) = one-found (sym (h .e .given .1) ∙ h .before .before .event-at .ensures ∙ found) in
+    let came = rw same at (a .apply .ensures .0) in
+    record {
+      possible = ap (λ (o : Outcome). o .possible) came;
+      state = ap (λ (o : Outcome). o .state) came;
+      passed = refl;
+      event = after;
+      step = refl;
+    }
+
+returns-3 : tie.Need-returns-3
+returns-3 c = λ e next found low.
+    absurd (not-absent (sym (c .enum-told .given .1) ∙ c .before .before .event-at .ensures ∙ found))
+
+pub take-event-spec : {M : Type 1} → statement M
+take-event-spec =
+    tie.close
+    (tie.spec
+    returns
+    event-at-requires
+    enum-known-e
+    apply-requires
+    add-t15
+    enum-told
+    returns-2
+    returns-3)

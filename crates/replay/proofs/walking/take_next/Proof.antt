@@ -1,0 +1,65 @@
+-- `take_next` takes the step that is due, or else the event.
+use native.Mathlib.Omega.{arith}
+use mathlib.Core.Path.{_≡_, sym, ap, _∙_}
+use mathlib.Core.Option.{some}
+use denote.Ref.{now}
+use Rattle.verdict_file.specs.Answers.{stepOf, stepAtOf}
+use Rattle.verdict_file.specs.Schedules.{stepAt}
+use Rattle.replay.proofs.Going.{step-goes, event-goes, event-goes-last}
+use borrow.Author.Needs.{needs}
+use Rattle.replay.proofs.walking.take_next.Statement.{statement}
+use Rattle.replay.proofs.walking.take_next.Tie as tie
+
+step-at-requires : tie.Need-step-at-requires
+step-at-requires c κs = search needs
+
+enum-known-p : tie.Need-enum-known-p
+enum-known-p c = search needs
+
+take-step-requires : tie.Need-take-step-requires
+take-step-requires c κs = search needs
+
+-- A step was found.
+found : (c : tie.After-p)
+    → let a = c .before .before .before .before .before .args in
+    stepAt (now (a .schedule)) (a .w .step) ≡ some (stepOf (c .p .given .0 .0), c .p .given .0 .1 .0)
+found c = sym (c .before .before .step-at .ensures) ∙ ap stepAtOf (c .p .given .1)
+
+returns : tie.Need-returns
+returns c = λ a k g.
+    step-goes g _ _ _ (found (c .before .before .before .before .before))
+    (omega (arith, c .before .if1 .taken)) (c .take-step .ensures)
+
+take-event-requires : tie.Need-take-event-requires
+take-event-requires c κs = search needs
+
+enum-told : tie.Need-enum-told
+enum-told c = search needs
+
+take-event-requires-2 : tie.Need-take-event-requires-2
+take-event-requires-2 c κs = search needs
+
+returns-2 : tie.Need-returns-2
+returns-2 c = λ a k g.
+    event-goes g _ _ _ (found (c .before .before .before .before .before))
+    (omega (arith, c .before .if1 .left)) (c .take-event .ensures)
+
+returns-3 : tie.Need-returns-3
+returns-3 c = λ a k g.
+    let h = c .before .before .before in
+    let none-left = sym (h .step-at .ensures) ∙ ap stepAtOf (c .before .enum-told .given .1) in
+    event-goes-last g _ none-left (c .take-event2 .ensures)
+
+pub take-next-spec : {M : Type 1} → statement M
+take-next-spec =
+    tie.close
+    (tie.spec
+    step-at-requires
+    enum-known-p
+    take-step-requires
+    returns
+    take-event-requires
+    enum-told
+    take-event-requires-2
+    returns-2
+    returns-3)

@@ -1,0 +1,315 @@
+#!/usr/bin/env python3
+"""`cases` prints crates/replay_cases/stdin. `answers` reads those lines and prints what the program must print, by a
+schedule reader and a replay of the whole system of its own, written from document 01 alone."""
+import sys
+
+sys.dont_write_bytecode = True
+from format_reference import Refused, asked, whole
+
+# ---- replay
+
+
+class System:
+    """Caches and memories; each event and each step says whether it is possible, and then changes the state."""
+
+    def __init__(self, machines, persistent, owners):
+        self.owners = owners
+        self.persistent = persistent
+        self.caches = {i: {} for i in range(1, machines + 1)}
+        self.memory = [0] * len(owners)
+
+    def copies(self, x):
+        return [cache[x] for cache in self.caches.values() if x in cache]
+
+    def lose(self, x):
+        for cache in self.caches.values():
+            cache.pop(x, None)
+
+    def event(self, operation, i, x, v):
+        if operation in (1, 2):
+            self.lose(x)
+            self.caches[i if operation == 1 else self.owners[x]][x] = v
+        elif operation == 3:
+            self.lose(x)
+            self.memory[x] = v
+        elif operation == 4:
+            if not self.copies(x):
+                return self.memory[x] == v
+            if any(copy != v for copy in self.copies(x)):
+                return False
+            self.caches[i][x] = v
+        elif operation == 5:
+            return x not in self.caches[i]
+        elif operation == 6:
+            return not self.copies(x)
+        else:
+            self.caches[i] = {}
+            if not self.persistent >> (i - 1) & 1:
+                self.memory = [0 if k == i else m for k, m in zip(self.owners, self.memory)]
+        return True
+
+    def step(self, x, i):
+        owner = self.owners[x]
+        source = owner if i == 0 else i
+        if x not in self.caches[source]:
+            return False
+        v = self.caches[source].pop(x)
+        if i == 0:
+            self.lose(x)
+            self.memory[x] = v
+        else:
+            self.caches[owner][x] = v
+        return True
+
+
+def schedule(data, records):
+    """The steps of a verdict file that says allowed and fits the log."""
+    asked(data[:5] == bytes([0x10, 2, 0, 1, 0]), 13)
+    steps, at = [], 5
+    while data[at:at + 3] == bytes([0x11, 3, 0]) and len(data) >= at + 6:
+        steps.append(tuple(data[at + 3:at + 6]))
+        at += 6
+    asked(data[at:] == bytes([0x04, 0, 0]), 13)
+    asked(len(steps) <= 256, 13)
+    least = 0
+    for before, location, machine in steps:
+        asked(least <= before <= len(records.events), 13)
+        asked(location < len(records.owners), 13)
+        asked(machine <= records.machines and machine != records.owners[location], 13)
+        least = before
+    return steps
+
+
+def replay(log, file):
+    try:
+        records = whole(log)
+        steps = schedule(file, records)
+    except Refused as why:
+        return f"number {why}"
+    system = System(records.machines, records.persistent, records.owners)
+    for passed in range(len(records.events) + 1):
+        while steps and steps[0][0] == passed:
+            if not system.step(*steps.pop(0)[1:]):
+                return f"no {passed}"
+        if passed < len(records.events) and not system.event(*records.events[passed]):
+            return f"no {passed}"
+    return "yes"
+
+
+def answers():
+    for line in sys.stdin.read().split("\n")[:-1]:
+        words = line.split(" ")
+        print(replay(bytes.fromhex(words[1]), bytes.fromhex(words[2])) if words[0] == "r" else line)
+
+
+# ---- cases
+
+
+def field(tag, *payload):
+    return bytes([tag, len(payload) % 256, len(payload) // 256, *payload])
+
+
+END = field(0x04)
+ALLOWED = field(0x10, 1, 0)
+
+
+def log(machines, persistent, owners, events):
+    body = b"".join(field(0x02, k) for k in owners)
+    body += b"".join(field(0x03, op, i, x, v % 256, v // 256) for op, i, x, v in events)
+    return field(0x01, machines, persistent) + body + END
+
+
+def file(steps):
+    return ALLOWED + b"".join(field(0x11, *step) for step in steps) + END
+
+
+LINES = []
+
+
+def show(words, the_log, the_file):
+    LINES.append(f"# {words}\n")
+    LINES.append(f"r {the_log.hex()} {the_file.hex()}\n")
+
+
+def changed(words, the_log, steps):
+    """A schedule, and each of its steps left out, doubled, moved one event later, and with its parts swapped."""
+    show(words, the_log, file(steps))
+    for n, (before, location, machine) in enumerate(steps, 1):
+        head, tail = steps[:n - 1], steps[n:]
+        show(f"{words}, step {n} left out", the_log, file(head + tail))
+        show(f"{words}, step {n} doubled", the_log, file(head + [steps[n - 1]] * 2 + tail))
+        show(f"{words}, step {n} one event later", the_log, file(head + [(before + 1, location, machine)] + tail))
+        show(f"{words}, step {n} with machine and location swapped", the_log,
+             file(head + [(before, machine, location)] + tail))
+
+
+L_STORE, R_STORE, M_STORE, LOAD, L_FLUSH, R_FLUSH, CRASH = range(1, 8)
+
+
+def three(owners, *events):
+    return log(3, 7, owners, events)
+
+
+MARKED = {
+    1: three([1], (R_STORE, 1, 0, 1), (CRASH, 1, 0, 0), (LOAD, 1, 0, 0)),
+    2: three([1], (M_STORE, 1, 0, 1), (CRASH, 1, 0, 0), (LOAD, 1, 0, 0)),
+    3: three([1], (L_STORE, 1, 0, 1), (L_FLUSH, 1, 0, 0), (CRASH, 1, 0, 0), (LOAD, 1, 0, 0)),
+    4: three([2], (L_STORE, 1, 0, 1), (L_FLUSH, 1, 0, 0), (CRASH, 2, 0, 0), (LOAD, 1, 0, 0)),
+    5: three([2], (L_STORE, 1, 0, 1), (R_FLUSH, 1, 0, 0), (CRASH, 2, 0, 0), (LOAD, 1, 0, 0)),
+    6: three([3], (L_STORE, 1, 0, 1), (LOAD, 2, 0, 1), (CRASH, 1, 0, 0), (LOAD, 2, 0, 0)),
+    7: three([3], (L_STORE, 1, 0, 1), (LOAD, 2, 0, 1), (L_FLUSH, 2, 0, 0), (CRASH, 1, 0, 0), (CRASH, 2, 0, 0),
+             (LOAD, 2, 0, 0)),
+    8: three([2, 1], (R_STORE, 1, 0, 1), (LOAD, 2, 0, 1), (R_STORE, 2, 1, 1), (CRASH, 2, 0, 0), (LOAD, 1, 1, 1),
+             (LOAD, 1, 0, 0)),
+    9: three([2, 1], (M_STORE, 1, 0, 1), (LOAD, 2, 0, 1), (R_STORE, 2, 1, 1), (CRASH, 2, 0, 0), (LOAD, 1, 1, 1),
+             (LOAD, 1, 0, 0)),
+    10: three([1]),
+    11: three([1], (LOAD, 1, 0, 1)),
+    12: log(3, 0, [2], [(M_STORE, 1, 0, 1), (CRASH, 2, 0, 0), (LOAD, 1, 0, 1)]),
+    13: log(3, 0, [2], [(L_STORE, 1, 0, 1), (LOAD, 2, 0, 1), (L_FLUSH, 2, 0, 0), (CRASH, 2, 0, 0), (LOAD, 1, 0, 1)]),
+    14: three([2], (L_STORE, 1, 0, 1), (CRASH, 1, 0, 0), (LOAD, 2, 0, 1)),
+}
+
+
+def marked_cases():
+    two = log(2, 3, [2], [(L_STORE, 1, 0, 1), (L_FLUSH, 1, 0, 0), (CRASH, 2, 0, 0), (LOAD, 1, 0, 0)])
+    changed("case 4 with two machines and its one schedule", two, [(1, 0, 1)])
+    show("case 1 without a step", MARKED[1], file([]))
+    changed("case 1 with a write-back before the crash", MARKED[1], [(1, 0, 0)])
+    changed("case 4", MARKED[4], [(1, 0, 1)])
+    show("case 8 without a step", MARKED[8], file([]))
+    changed("case 8 with a write-back of L1", MARKED[8], [(3, 1, 0)])
+    show("case 10", MARKED[10], file([]))
+    changed("case 10 with a write-back", MARKED[10], [(0, 0, 0)])
+    changed("case 14", MARKED[14], [(1, 0, 1)])
+    changed("case 14 with a write-back after the crash", MARKED[14], [(1, 0, 1), (2, 0, 0)])
+    changed("case 14 with a write-back after the last event", MARKED[14], [(1, 0, 1), (3, 0, 0)])
+    for n in (2, 3, 5, 6, 7, 9, 11, 12, 13):
+        show(f"case {n} without a step", MARKED[n], file([]))
+    changed("case 3 with a write-back", MARKED[3], [(1, 0, 0)])
+    changed("case 5 with its steps down to memory", MARKED[5], [(1, 0, 1), (1, 0, 0)])
+    changed("case 13 with a write-back", MARKED[13], [(2, 0, 0)])
+
+
+def edge_cases():
+    stores = log(2, 3, [2], [(L_STORE, 1, 0, n) for n in range(1, 129)])
+    steps = [step for n in range(1, 129) for step in ((n, 0, 1), (n, 0, 0))]
+    show("128 LStores with 256 steps", stores, file(steps))
+    show("128 LStores with 257 steps: 13", stores, file(steps + [(128, 0, 0)]))
+    show("128 LStores, the last write-back before its propagation", stores, file(steps[:-2] + steps[:-3:-1]))
+    owners = [(k + 4) % 6 + 1 for k in range(32)]
+    events = [(L_STORE, 5, 31, 65535), (LOAD, 6, 31, 65535), (L_FLUSH, 5, 31, 0), (R_FLUSH, 2, 31, 0), (CRASH, 6, 0, 0),
+              (LOAD, 1, 31, 65535), (L_STORE, 6, 30, 256), (L_FLUSH, 6, 30, 0)]
+    changed("6 machines, 32 locations and values of 16 bits", log(6, 0x3d, owners, events),
+            [(2, 31, 5), (3, 31, 0), (7, 30, 6)])
+
+
+def refused_schedules():
+    it = MARKED[4]
+    step = field(0x11, 1, 0, 1)
+    for words, data in [
+            ("an empty file", b""),
+            ("a header that is cut", ALLOWED[:4]),
+            ("no header", step + END),
+            ("a log for a schedule", it),
+            ("a header of length 3", field(0x10, 1, 0, 0) + step + END),
+            ("a header's length with a high byte", bytes([0x10, 2, 1, 1, 0]) + step + END),
+            ("impossible, event 4", field(0x10, 0, 4) + END),
+            ("impossible, event 0", field(0x10, 0, 0) + END),
+            ("a verdict of 2", field(0x10, 2, 0) + step + END),
+            ("allowed, but with an event", field(0x10, 1, 4) + step + END),
+            ("no end", ALLOWED + step),
+            ("no end and no step", ALLOWED),
+            ("an end that is cut", ALLOWED + step + END[:2]),
+            ("an end of length 1", ALLOWED + step + field(0x04, 0)),
+            ("a byte after the end", ALLOWED + step + END + b"\0"),
+            ("a step after the end", ALLOWED + END + step),
+            ("a second end", ALLOWED + step + END + END),
+            ("a second header", ALLOWED + ALLOWED + step + END),
+            ("a step that is cut", ALLOWED + step[:5]),
+            ("a step of length 2", ALLOWED + field(0x11, 1, 0) + END),
+            ("a step of length 4", ALLOWED + field(0x11, 1, 0, 1, 0) + END),
+            ("a step's length with a high byte", ALLOWED + bytes([0x11, 3, 1, 1, 0, 1]) + END),
+            ("an unknown tag", ALLOWED + field(0x12, 1, 0, 1) + END),
+            ("a count of events before that falls", file([(2, 0, 1), (1, 0, 1)])),
+            ("events before over the log's events", file([(5, 0, 1)])),
+            ("a location not listed", file([(1, 1, 1)])),
+            ("location 32", file([(1, 32, 1)])),
+            ("a machine over n", file([(1, 0, 4)])),
+            ("machine 255", file([(1, 0, 255)])),
+            ("the owner as the machine", file([(1, 0, 2)])),
+            ("the second step's machine over n", file([(1, 0, 1), (1, 0, 4)]))]:
+        show(f"schedule: {words}: 13", it, data)
+    show("a log without locations, and a step: 13", log(3, 7, [], []), file([(0, 0, 0)]))
+
+
+def refused_logs():
+    good, bad = file([]), b""
+    crowd = [(L_STORE, 1, 0, 1)] * 129
+    for words, data in [
+            ("an empty file: 2", b""),
+            ("no end: 2", three([1])[:-3]),
+            ("an 02 after an 03: 3", three([1], (L_STORE, 1, 0, 1))[:-3] + field(0x02, 1) + END),
+            ("an event of length 4: 4", three([1])[:-3] + field(0x03, 1, 1, 0, 0) + END),
+            ("7 machines: 5", log(7, 0, [1], [])),
+            ("owner 4 of 3: 6", three([4])),
+            ("33 locations: 7", three([1] * 33)),
+            ("129 events: 7", three([1], *crowd)),
+            ("operation 8: 8", three([1], (8, 1, 0, 0))),
+            ("machine 4 of 3: 9", three([1], (LOAD, 4, 0, 0))),
+            ("a location not listed: 10", three([1], (LOAD, 1, 1, 0))),
+            ("a crash with a value: 11", three([1], (CRASH, 1, 0, 1))),
+            ("a byte after the end: 12", three([1]) + b"\0")]:
+        show(f"log: {words}", data, good)
+    show("log: owner 4 of 3, before the schedule's 13: 6", three([4]), bad)
+    show("log: a byte after the end, before the schedule's 13: 12", three([1]) + b"\0", bad)
+
+
+def drawn(state):
+    """Numbers that look drawn by lot, the same everywhere."""
+    while True:
+        state = (state * 1103515245 + 12345) % 2 ** 31
+        yield state // 65536
+
+
+def drawn_cases():
+    draw = drawn(4)
+
+    def below(n):
+        return next(draw) % n
+
+    for number in range(1, 61):
+        n = 2 + below(3)
+        persistent = below(2 ** n)
+        owners = [1 + below(n) for _ in range(1 + below(2))]
+        system, events, steps = System(n, persistent, owners), [], []
+
+        def draw_step():
+            x, i = below(len(owners)), below(n + 1)
+            i = 0 if i == owners[x] else i
+            if system.step(x, i) or below(16) == 0:
+                steps.append((len(events), x, i))
+
+        def draw_event():
+            op, i, x, v = 1 + below(7), 1 + below(n), below(len(owners)), below(2)
+            event = (op, i, x if op < 7 else 0, v if op < 5 else 0)
+            if system.event(*event) or below(16) == 0:
+                events.append(event)
+
+        for _ in range(20):
+            (draw_step if below(2) else draw_event)()
+        show(f"drawn {number}", log(n, persistent, owners, events), file(steps))
+
+
+def cases():
+    marked_cases()
+    edge_cases()
+    refused_schedules()
+    refused_logs()
+    drawn_cases()
+    text = "".join(LINES)
+    assert len(text) < 65536, "more than the program reads"
+    print(text, end="")
+
+
+{"cases": cases, "answers": answers}[sys.argv[1]]()
