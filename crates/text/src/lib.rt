@@ -101,3 +101,39 @@ pub fn hex_bytes(text: &[u8], at: usize, out: &mut [u8]) -> Parsed {
         value: count,
     }
 }
+
+fn digit_value(b: u8) -> usize
+    ensures { λ r. ⌜ r ≤ 10 ⌝ }
+{
+    match b {
+        b'0'..=b'9' => (b - b'0') as usize,
+        _ => 10,
+    }
+}
+
+// Reads a number in decimal from a position on, as long as there are digits and it stays below 2^64 - 6.
+pub fn decimal(text: &[u8], at: usize) -> Parsed {
+    let mut from = at;
+    let mut value: usize = 0;
+    while from < text.len() {
+        let digit = digit_value(text[from]);
+        if 9 < digit {
+            return Parsed {
+                at: from,
+                value: value,
+            };
+        }
+        if 1844674407370955160 < value {
+            return Parsed {
+                at: from,
+                value: value,
+            };
+        }
+        value = value * 10 + digit;
+        from += 1;
+    }
+    Parsed {
+        at: from,
+        value: value,
+    }
+}

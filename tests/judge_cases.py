@@ -1,0 +1,175 @@
+#!/usr/bin/env python3
+"""Prints the lines of crates/judge_cases/stdin: logs in the byte form of document 01, each with the areas that it is
+judged in. A case is a line `NAME LOG OUTPUT OFFSET SCRATCH`, and a comment above it says what is to come out."""
+
+LSTORE, RSTORE, MSTORE, LOAD, LFLUSH, RFLUSH, CRASH = range(1, 8)
+LONGEST = 1544  # bytes of a verdict file
+WORDS = 4096  # the fewest numbers of a scratch area
+
+
+def field(tag, *payload):
+    return bytes([tag, len(payload) % 256, len(payload) // 256, *payload])
+
+
+def head(machines, persistent):
+    return field(0x01, machines, persistent)
+
+
+def row(owner):
+    return field(0x02, owner)
+
+
+def event(operation, machine, location=0, value=0):
+    return field(0x03, operation, machine, location, value % 256, value // 256)
+
+
+END = field(0x04)
+
+
+def log(owners, events, machines=3, persistent=None):
+    """The log of a system with these owners; all machines are persistent unless said."""
+    everyone = (1 << machines) - 1
+    kinds = everyone if persistent is None else persistent
+    return head(machines, kinds) + b"".join(map(row, owners)) + b"".join(event(*e) for e in events) + END
+
+
+def case(name, expected, data, output=LONGEST, offset=0, scratch=WORDS):
+    print(f"# {expected}")
+    print(f"{name} {data.hex()} {output} {offset} {scratch}")
+
+
+def marked_logs():
+    """The fourteen marked logs of document 01."""
+    case("marked-1", "RStore, crash, load of 0: allowed",
+         log([1], [(RSTORE, 1, 0, 1), (CRASH, 1), (LOAD, 1, 0, 0)]))
+    case("marked-2", "the same with MStore: impossible, 3",
+         log([1], [(MSTORE, 1, 0, 1), (CRASH, 1), (LOAD, 1, 0, 0)]))
+    case("marked-3", "LStore and LFlush by the owner: impossible, 4",
+         log([1], [(LSTORE, 1, 0, 1), (LFLUSH, 1, 0), (CRASH, 1), (LOAD, 1, 0, 0)]))
+    case("marked-4", "LStore and LFlush by another machine, crash of the owner: allowed",
+         log([2], [(LSTORE, 1, 0, 1), (LFLUSH, 1, 0), (CRASH, 2), (LOAD, 1, 0, 0)]))
+    case("marked-5", "the same with RFlush: impossible, 4",
+         log([2], [(LSTORE, 1, 0, 1), (RFLUSH, 1, 0), (CRASH, 2), (LOAD, 1, 0, 0)]))
+    case("marked-6", "a copy of another machine outlives the storing one: impossible, 4",
+         log([3], [(LSTORE, 1, 0, 1), (LOAD, 2, 0, 1), (CRASH, 1), (LOAD, 2, 0, 0)]))
+    case("marked-7", "the same with an LFlush and a crash of the other machine: impossible, 6",
+         log([3], [(LSTORE, 1, 0, 1), (LOAD, 2, 0, 1), (LFLUSH, 2, 0), (CRASH, 1), (CRASH, 2), (LOAD, 2, 0, 0)]))
+    passed_on = [(LOAD, 2, 0, 1), (RSTORE, 2, 1, 1), (CRASH, 2), (LOAD, 1, 1, 1), (LOAD, 1, 0, 0)]
+    case("marked-8", "a value read, passed on and lost: allowed", log([2, 1], [(RSTORE, 1, 0, 1)] + passed_on))
+    case("marked-9", "the same with MStore first: impossible, 6", log([2, 1], [(MSTORE, 1, 0, 1)] + passed_on))
+    case("marked-10", "no events: allowed, no steps", log([1], []))
+    case("marked-11", "a load of 1 first: impossible, 1", log([1], [(LOAD, 1, 0, 1)]))
+    case("marked-12", "a volatile owner loses its memory: impossible, 3",
+         log([2], [(MSTORE, 1, 0, 1), (CRASH, 2), (LOAD, 1, 0, 1)], persistent=0))
+    case("marked-13", "a write-back clears every copy: impossible, 5",
+         log([2], [(LSTORE, 1, 0, 1), (LOAD, 2, 0, 1), (LFLUSH, 2, 0), (CRASH, 2), (LOAD, 1, 0, 1)], persistent=0))
+    case("marked-14", "a copy moves before its machine crashes: allowed",
+         log([2], [(LSTORE, 1, 0, 1), (CRASH, 1), (LOAD, 2, 0, 1)]))
+    case("printed-4", "case 4 with two machines, the bytes that document 01 prints: allowed, one step",
+         log([2], [(LSTORE, 1, 0, 1), (LFLUSH, 1, 0), (CRASH, 2), (LOAD, 1, 0, 0)], machines=2))
+
+
+def small_logs():
+    crashes = [(LSTORE, 2, 0, 5), (CRASH, 1), (CRASH, 2), (LOAD, 2, 0, 5)]
+    case("one-by-one", "two crashes one after the other, the first of a volatile owner: allowed",
+         log([1], crashes, machines=2, persistent=0b10))
+    case("one-by-one-back", "the same crashes in the other order: impossible, 4",
+         log([1], [crashes[0], crashes[2], crashes[1], crashes[3]], machines=2, persistent=0b10))
+    for value, outcome in ((0, "allowed"), (1, "allowed"), (2, "allowed"), (3, "impossible, 4")):
+        case(f"memory-{value}", f"one of several values that memory may have: {outcome}",
+             log([1], [(RSTORE, 2, 0, 1), (RSTORE, 2, 0, 2), (CRASH, 1), (LOAD, 3, 0, value)]))
+    case("no-copy", "a load from memory leaves no copy: allowed", log([1], [(LOAD, 2, 0, 0), (LFLUSH, 2, 0)]))
+    case("no-locations", "no locations, crashes only: allowed", log([], [(CRASH, 1), (CRASH, 3), (CRASH, 1)]))
+    case("nothing", "no locations and no events: allowed", log([], [], machines=1))
+    case("volatile-crashes", "no locations, crashes of volatile machines: allowed",
+         log([], [(CRASH, machine) for machine in range(1, 7)], machines=6, persistent=0))
+    case("large-values", "values with both bytes, six machines: allowed",
+         log([6], [(LSTORE, 5, 0, 65535), (LOAD, 4, 0, 65535), (CRASH, 5), (CRASH, 6), (CRASH, 4), (LOAD, 1, 0, 65535)],
+             machines=6))
+    case("three-locations", "steps of two locations of three, before different events: allowed",
+         log([3, 2, 1], [(LSTORE, 1, 2, 9), (LSTORE, 1, 1, 8), (LSTORE, 1, 0, 7), (RFLUSH, 2, 0), (CRASH, 1),
+                         (LOAD, 1, 1, 8), (LOAD, 1, 2, 0)]))
+    case("least-event", "three locations, each impossible at an event of its own: impossible, 2",
+         log([1, 2, 3], [(CRASH, 1), (LOAD, 1, 1, 1), (LOAD, 1, 2, 1), (LOAD, 1, 0, 1)]))
+
+
+def full(last):
+    """128 events on 32 locations of six machines, three of them volatile: each location is stored, read elsewhere, put
+    through a crash of every machine, read again and flushed; the last event is as given."""
+    owners = [x % 6 + 1 for x in range(32)]
+    kept = 0b101010
+    others = [owner % 6 + 1 for owner in owners]
+    events = [(LSTORE, others[x], x, 1000 + x) for x in range(32)]
+    events += [(LOAD, others[x] % 6 + 1, x, 1000 + x) for x in range(32)]
+    events += [(CRASH, machine) for machine in range(1, 7)]
+    events += [(LOAD, 1, x, (1000 + x) * (kept >> owners[x] - 1 & 1)) for x in range(32)]
+    events += [(RFLUSH, 1, x) for x in range(25)]
+    return log(owners, events + [last], machines=6, persistent=kept)
+
+
+def large_logs():
+    case("full", "128 events and 32 locations: allowed", full((LOAD, 6, 31, 1031)))
+    case("full-impossible", "128 events and 32 locations: impossible, 128", full((LOAD, 6, 31, 0)))
+    pairs = [e for value in range(1, 65) for e in ((LSTORE, 1, 0, value), (RFLUSH, 1, 0))]
+    case("most-steps", "64 stores, each moved and written back before a flush: allowed, 128 steps", log([2], pairs))
+    case("most-steps-then", "the same, and a load of a value that was overwritten: impossible, 128",
+         log([2], pairs[:-1] + [(LOAD, 3, 0, 63)]))
+    stores = [(LSTORE, 1, x, x + 1) for x in range(32)]
+    loads = [(LOAD, 3, x, x + 1) for x in range(32)]
+    flushes = [(RFLUSH, 1, x) for x in range(31)]
+    case("steps-at-once", "32 copies moved before one crash and written back before the next: allowed, 64 steps",
+         log([2] * 32, stores + [(CRASH, 1), (CRASH, 2)] + loads + flushes + flushes))
+    case("events-128", "128 events pass", log([1], [(LSTORE, 1, 0, 1)] * 128))
+    case("locations-32", "32 locations pass", log([1] * 32, []))
+
+
+def refusals():
+    good = log([1], [(RSTORE, 1, 0, 1)])
+    case("refused-1", "no output: number 1", good, output=0)
+    case("refused-2", "an empty file: number 2", b"")
+    case("refused-2-cut", "a payload that is not whole: number 2", head(3, 7)[:-1])
+    case("refused-2-end", "no end field: number 2", good[:-3])
+    case("refused-3", "an unknown tag: number 3", head(3, 7) + field(0x05) + END)
+    case("refused-3-first", "no head: number 3", row(1) + END)
+    case("refused-4", "a location of length 2: number 4", head(3, 7) + field(0x02, 1, 1) + END)
+    case("refused-5", "no machines: number 5", head(0, 0) + END)
+    case("refused-5-seven", "7 machines: number 5", head(7, 0) + END)
+    case("refused-5-absent", "a persistent bit of an absent machine: number 5", head(3, 8) + END)
+    case("refused-6", "owner 4 of 3: number 6", log([4], []))
+    case("refused-7", "a 129th event: number 7", log([1], [(LSTORE, 1, 0, 1)] * 129))
+    case("refused-7-locations", "a 33rd location: number 7", log([1] * 33, []))
+    case("refused-8", "operation 0: number 8", log([1], [(0, 1)]))
+    case("refused-8-last", "operation 8 after an impossible event: number 8", log([1], [(LOAD, 1, 0, 1), (8, 1)]))
+    case("refused-9", "machine 4 of 3: number 9", log([1], [(CRASH, 4)]))
+    case("refused-10", "location 1 of 1: number 10", log([1], [(LOAD, 1, 1, 0)]))
+    case("refused-11", "a crash with a location: number 11", log([1], [(CRASH, 1, 1)]))
+    case("refused-12", "a byte after the end: number 12", good + b"\0")
+
+
+def areas():
+    good = log([2], [(LSTORE, 1, 0, 1), (RFLUSH, 1, 0)])
+    bad = log([1], [(LOAD, 1, 0, 1)])
+    case("offset", "an offset in the middle of a larger output: allowed", good, 4000, 1000)
+    case("offset-impossible", "the same for an impossible log", bad, 4000, 2000)
+    case("offset-refused", "the same for a refused log: number 9", log([1], [(CRASH, 4)]), 4000, 1000)
+    case("offset-last", "1,544 bytes after the offset: allowed", good, 1744, 200)
+    case("offset-short", "1,543 bytes after the offset: number 1", good, 1744, 201)
+    case("output-short", "an output of 1,543 bytes: number 1", good, 1543)
+    case("offset-end", "an offset at the end of the output: number 1", good, 2000, 2000)
+    case("offset-past", "an offset past the output: number 1", good, 2000, 2001)
+    case("offset-far", "an offset near the largest number: number 1", good, 2000, 2**64 - 7)
+    case("scratch-4095", "a scratch area of 4,095 numbers: number 1", good, scratch=4095)
+    case("scratch-0", "no scratch area: number 1", good, scratch=0)
+    case("scratch-5000", "a scratch area of 5,000 numbers: allowed", good, scratch=5000)
+    case("scratch-5000-impossible", "the same for an impossible log", bad, scratch=5000)
+    case("full-5000", "128 events and 32 locations at an offset, with 5,000 numbers: allowed",
+         full((LOAD, 6, 31, 1031)), 4000, 2456, 5000)
+    case("short-first", "a short output before a refused log: number 1", b"", output=1543)
+    case("short-scratch-first", "a short scratch area before a refused log: number 1", b"", scratch=4095)
+
+
+marked_logs()
+small_logs()
+large_logs()
+refusals()
+areas()

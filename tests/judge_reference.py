@@ -1,0 +1,223 @@
+#!/usr/bin/env python3
+"""judge_reference.py STDIN STDOUT: is STDOUT what crates/judge_cases must print on STDIN?
+
+Each log is judged anew, from document 01 alone: a location at a time, forward, with every state that its silent steps
+can reach. A schedule that was printed is replayed on the whole system. The exit status is 0 only where nothing is
+wrong."""
+import sys
+
+from format_reference import Refused, fields
+
+LSTORE, RSTORE, MSTORE, LOAD, LFLUSH, RFLUSH, CRASH = range(1, 8)
+LONGEST = 1544
+WORDS = 4096
+MOST_STEPS = 256
+
+
+def accepted(data):
+    """The records of a log, or the number of its refusal."""
+    try:
+        records, end = fields(data)
+    except Refused as why:
+        return None, why.args[0]
+    if end is None:
+        return None, 2
+    return (records, None) if end == len(data) else (None, 12)
+
+
+# One location: the value that each machine's cache holds, or None, and the value in memory.
+
+
+def volatile(records, machine):
+    return not records.persistent >> machine - 1 & 1
+
+
+def without(caches, machine):
+    return caches[:machine - 1] + (None,) + caches[machine:]
+
+
+def with_copy(caches, machine, value):
+    return caches[:machine - 1] + (value,) + caches[machine:]
+
+
+def move(owner, machine, state):
+    """A copy goes to the owner's cache; None where that is not possible."""
+    caches, memory = state
+    value = caches[machine - 1]
+    if machine == owner or value is None:
+        return None
+    return with_copy(without(caches, machine), owner, value), memory
+
+
+def write_back(owner, state):
+    caches, _ = state
+    value = caches[owner - 1]
+    return None if value is None else ((None,) * len(caches), value)
+
+
+def after(records, owner, event, state):
+    """The state after an event of the location, or a crash; None where the event is not possible."""
+    operation, machine, _, value = event
+    caches, memory = state
+    nobody = (None,) * len(caches)
+    if operation == LSTORE:
+        return with_copy(nobody, machine, value), memory
+    if operation == RSTORE:
+        return with_copy(nobody, owner, value), memory
+    if operation == MSTORE:
+        return nobody, value
+    if operation == LOAD:
+        if caches == nobody:
+            return state if memory == value else None
+        copies = {copy for copy in caches if copy is not None}
+        return (with_copy(caches, machine, value), memory) if copies == {value} else None
+    if operation == LFLUSH:
+        return state if caches[machine - 1] is None else None
+    if operation == RFLUSH:
+        return state if caches == nobody else None
+    lost = machine == owner and volatile(records, machine)
+    return without(caches, machine), 0 if lost else memory
+
+
+def silently(owner, states):
+    """The states that silent steps reach from some of these, breadth first."""
+    seen = set(states)
+    wave = list(states)
+    while wave:
+        ahead = []
+        for state in wave:
+            steps = [move(owner, machine, state) for machine in range(1, len(state[0]) + 1)]
+            for new in steps + [write_back(owner, state)]:
+                if new is not None and new not in seen:
+                    seen.add(new)
+                    ahead.append(new)
+        wave = ahead
+    return seen
+
+
+def concerns(event, location):
+    return event[0] == CRASH or event[2] == location
+
+
+def first_impossible_at(records, location):
+    """The least e such that the first e events have no run at this location, or None."""
+    owner = records.owners[location]
+    states = {((None,) * records.machines, 0)}
+    for e, event in enumerate(records.events, 1):
+        if concerns(event, location):
+            reached = silently(owner, states)
+            states = {new for state in reached if (new := after(records, owner, event, state)) is not None}
+            if not states:
+                return e
+    return None
+
+
+def first_impossible(records):
+    found = [first_impossible_at(records, x) for x in range(len(records.owners))]
+    return min((e for e in found if e is not None), default=0)
+
+
+# A schedule on the whole system.
+
+
+def replays(records, steps):
+    """Whether events and steps, each step after so many events, are a run."""
+    states = [((None,) * records.machines, 0) for _ in records.owners]
+    at = 0
+    for passed in range(len(records.events) + 1):
+        while at < len(steps) and steps[at][0] == passed:
+            _, location, machine = steps[at]
+            owner = records.owners[location]
+            state = states[location]
+            states[location] = move(owner, machine, state) if machine else write_back(owner, state)
+            if states[location] is None:
+                return False
+            at += 1
+        if passed < len(records.events):
+            event = records.events[passed]
+            for x, owner in enumerate(records.owners):
+                if concerns(event, x):
+                    states[x] = after(records, owner, event, states[x])
+                    if states[x] is None:
+                        return False
+    return at == len(steps)
+
+
+def schedule(records, file):
+    """The steps of a file that says allowed; None where it has not that form or does not fit the log."""
+    if file[:5] != bytes.fromhex("1002000100") or file[-3:] != bytes.fromhex("040000") or len(file) % 6 != 2:
+        return None
+    steps, least = [], 0
+    for at in range(5, len(file) - 3, 6):
+        before, location, machine = file[at + 3:at + 6]
+        if file[at:at + 3] != bytes.fromhex("110300") or not least <= before <= len(records.events):
+            return None
+        if location >= len(records.owners) or machine > records.machines or machine == records.owners[location]:
+            return None
+        steps.append((before, location, machine))
+        least = before
+    return steps if len(steps) <= MOST_STEPS else None
+
+
+# What is printed of a case.
+
+AFTER_A_VERDICT = ["output outside the file as it was", "scratch all zero"]
+AFTER_A_REFUSAL = ["output as it was", "scratch as it was"]
+
+
+def wrong_allowed(records, name, printed):
+    """What is wrong with the lines of an allowed log, or None."""
+    if len(printed) != 5 or not printed[1].startswith("file "):
+        return "not the lines of a verdict"
+    file = bytes.fromhex(printed[1][5:])
+    steps = schedule(records, file)
+    if steps is None:
+        return "the file is no schedule of this log"
+    if not replays(records, steps):
+        return "the schedule is no run"
+    if printed[0] != f"{name} allowed {len(steps)} {len(file)}":
+        return "not the verdict, the step count and the length of the file"
+    return None if printed[2:] == ["replay yes"] + AFTER_A_VERDICT else "not the lines that must follow the file"
+
+
+def wrong_case(line, printed):
+    name, log, *numbers = line.split(" ")
+    output, offset, scratch = map(int, numbers)
+    records, number = accepted(bytes.fromhex(log))
+    if offset > output or output - offset < LONGEST or scratch < WORDS:
+        number = 1
+    if number is not None:
+        expected = [f"{name} number {number}"] + AFTER_A_REFUSAL
+        return None if printed == expected else f"expected {expected}"
+    event = first_impossible(records)
+    if event == 0:
+        return wrong_allowed(records, name, printed)
+    file = bytes([0x10, 2, 0, 0, event, 4, 0, 0])
+    expected = [f"{name} impossible {event} {len(file)}", f"file {file.hex()}", "replay number 13"] + AFTER_A_VERDICT
+    return None if printed == expected else f"expected {expected}"
+
+
+def lines_of(path):
+    with open(path, encoding="ascii") as text:
+        return text.read().split("\n")[:-1]
+
+
+def main():
+    cases, printed = lines_of(sys.argv[1]), lines_of(sys.argv[2])
+    names = {line.split(" ")[0] for line in cases}
+    starts = [n for n, line in enumerate(printed) if line.split(" ")[0] in names] + [len(printed)]
+    if len(starts) != len(cases) + 1 or starts[0] != 0:
+        sys.exit("not as many cases printed as there are lines")
+    wrongs = 0
+    for line, start, end in zip(cases, starts, starts[1:]):
+        if line.startswith("#"):
+            wrong = None if printed[start:end] == [line] else "a comment is not printed as it is"
+        else:
+            wrong = wrong_case(line, printed[start:end])
+        if wrong:
+            print(f"{line[:60]}: {wrong}")
+            wrongs += 1
+    sys.exit(wrongs > 0)
+
+
+main()
