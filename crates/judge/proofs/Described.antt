@@ -1,13 +1,15 @@
 -- A site with what the topology says of its location describes the location.
+use Prim.Native.Nat.{_<_}
 use native.Mathlib.Nat.{le-trans}
 use mathlib.Core.Path.{_≡_, sym}
 use mathlib.Core.Bool.{not}
-use lib.Dec.{T, leb, leb→le}
-use Rattle.model.specs.Cxl0.{Machine, isMachine, isLocation, owner, initial, crashes, clears}
+use lib.Dec.{T, leb, ltb, leb→le, lt→ltb}
+use lib.ListN.{length}
+use Rattle.model.specs.Cxl0.{Machine, Location, isMachine, isLocation, owner, initial, crashes, clears}
 use Rattle.model.specs.Meaning.{topologyOf, withinLimits}
 use Rattle.model.specs.declared.Topology as topology
-use Rattle.model.proofs.Tests.{and-l, and-r}
-use Rattle.model.proofs.Limits.{within}
+use Rattle.model.proofs.Tests.{and-i, and-l, and-r}
+use Rattle.model.proofs.Limits.{within, listed}
 use Rattle.masks.specs.Sets.{OneToSix}
 use Rattle.search.specs.declared.Site.{Site}
 use Rattle.search.specs.Sites.{Describes}
@@ -20,6 +22,14 @@ one-to-six t limits i h =
     let low = leb→le 1 i (and-l (leb 1 i) (leb i (t .machines)) h) in
     let high = leb→le i (t .machines) (and-r (leb 1 i) (leb i (t .machines)) h) in
     (low, le-trans high (within t limits .machines-few))
+
+-- Each number below the count of locations is a location of the system.
+pub is-listed : (t : topology.Topology) → length (t .homes) ≡ 32 → T (withinLimits t)
+    → (x : Location) → x < t .locations → T (isLocation (topologyOf t) x)
+is-listed t full limits x h =
+    let few = within t limits .locations-few in
+    rw (listed t full x)
+    (and-i (ltb x (t .locations)) (ltb x 32) (lt→ltb x (t .locations) h) (lt→ltb x 32 (le-trans h few)))
 
 -- The owner, whether its memory is volatile, and the initial value are what the search is to know.
 pub described : (t : topology.Topology) {s : Site} → T (withinLimits t)

@@ -1,7 +1,12 @@
 pub mod Clearing
-pub mod Decoding
 pub mod Parts
-pub mod Narrowing
 pub mod Gathering
+pub mod Thinning
+pub mod Linking
+pub mod Logging
+pub mod Picking
+pub mod Retiming
+pub mod Visiting
+pub mod Loading
 pub mod Judging
 pub mod Settling

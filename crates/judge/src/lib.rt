@@ -1,19 +1,21 @@
 // Is there a run, and which? `judge` finds a schedule that explains a log, or names the first impossible event, and
 // writes the verdict file. specs/Judging.antt says what it answers and leaves.
-mod arranging;
 mod clearing;
-mod decoding;
-mod limits;
+mod logging;
+mod picking;
+mod retiming;
 mod settling;
 mod sites;
+mod visiting;
 
 use clearing::clear;
-use decoding::decode;
 use log::Head;
 use log::Reading;
 use log::Refusal;
 use log::opening::open;
 use log::reader::read;
+use logging::decode_log;
+use logging::link;
 use settling::settle;
 use verdict_file::filling::has_room;
 ghost use mathlib.Core.Path.{_≡_};
@@ -21,6 +23,7 @@ ghost use mathlib.Core.Bool.{true};
 ghost use Rattle.log.specs.Records.{Records};
 ghost use Rattle.log.specs.Reading.{accepted, readLog};
 ghost use Rattle.log.specs.Answers.{headOf};
+ghost use Rattle.judge.specs.Loading.{Loadable, Loads};
 ghost use Rattle.judge.specs.Judging.{areasFit, outcomeOf, JudgesLog, Judges};
 
 // The fewest words of the scratch area.
@@ -34,6 +37,15 @@ pub enum Judged {
     Refused(Refusal),
 }
 
+// Puts the events of the log, from a position on, into the scratch area with their links.
+fn load(log: &[u8], at: usize, scratch: &mut [u64], events: usize)
+    requires { ⌜ Loadable (now log) at events (now scratch) ⌝ }
+    ensures { λ _. ⌜ Loads (now (log .entry)) at events (now (scratch .entry)) (now (scratch .exit)) ⌝ }
+{
+    decode_log(log, at, scratch, events);
+    link(scratch, events);
+}
+
 // The verdict on an accepted log.
 fn decide(log: &[u8], head: Head, out: &mut [u8], offset: usize, scratch: &mut [u64]) -> Judged
     requires { ⌜ areasFit (now out) offset (now scratch) ≡ true ⌝ }
@@ -44,7 +56,7 @@ fn decide(log: &[u8], head: Head, out: &mut [u8], offset: usize, scratch: &mut [
 {
     let opened = open(log, head);
     let events = head.events as usize;
-    decode(log, opened.events, scratch, events);
+    load(log, opened.events, scratch, events);
     let answer = settle(opened.topology, events, out, offset, scratch);
     clear(scratch);
     answer

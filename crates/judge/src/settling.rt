@@ -1,9 +1,9 @@
 // The verdict on the events in the scratch area, and its file.
 use crate::Judged;
-use crate::arranging::arrange;
-use crate::limits::limit;
+use crate::visiting::visit_all;
 use model::Topology;
 use search::scratch::SORTED;
+use search::sorting::order;
 use verdict_file::Written;
 use verdict_file::write_allowed;
 use verdict_file::write_impossible;
@@ -13,9 +13,8 @@ ghost use lib.ListN.{length};
 ghost use Rattle.model.specs.Meaning.{topologyOf};
 ghost use Rattle.verdict_file.specs.Files.{impossible};
 ghost use Rattle.verdict_file.specs.Writing.{allowedBy, writable, room};
-ghost use Rattle.search.specs.Scratch.{eventsIn};
-ghost use Rattle.judge.specs.Parts.{Searchable};
 ghost use Rattle.judge.specs.Settling.{Issued, Settled};
+ghost use Rattle.judge.specs.Visiting.{logged, Loaded};
 
 // Writes the file that says impossible and tells of it.
 fn issue_impossible(out: &mut [u8], offset: usize, event: u8) -> Judged
@@ -41,15 +40,15 @@ fn issue_allowed(out: &mut [u8], offset: usize, steps: &[u64]) -> Judged
 
 // Issues a verdict on the events in the scratch area.
 pub fn settle(t: Topology, events: usize, out: &mut [u8], offset: usize, w: &mut [u64]) -> Judged
-    requires { ⌜ (room (now out) offset ≡ true) × Searchable t events (now w) ⌝ }
-    ensures { λ r. ⌜ Settled (topologyOf t) (eventsIn (now (w .entry)) events)
+    requires { ⌜ (room (now out) offset ≡ true) × Loaded t events (now w) ⌝ }
+    ensures { λ r. ⌜ Settled (topologyOf t) (logged events (now (w .entry)))
         (now (out .entry)) offset (now (out .exit)) r ⌝ }
     ensures { λ r. ⌜ length (now (w .exit)) ≡ length (now (w .entry)) ⌝ }
 {
-    let possible = limit(w, t, events);
-    if possible < events {
-        return issue_impossible(out, offset, (possible + 1) as u8);
+    let p = visit_all(w, t, events);
+    if p.events < events {
+        return issue_impossible(out, offset, (p.events + 1) as u8);
     }
-    let steps = arrange(w, t, events);
-    issue_allowed(out, offset, &w[SORTED..SORTED + steps])
+    order(w, p.steps, events);
+    issue_allowed(out, offset, &w[SORTED..SORTED + p.steps])
 }

@@ -26,3 +26,5 @@ pub mod Calls
 pub mod Walked
 pub mod Gathered
 pub mod Heads
+pub mod Lengths
+pub mod Bounded

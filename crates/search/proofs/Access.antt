@@ -14,16 +14,16 @@ use Rattle.search.proofs.Frames.{only-set, only-then}
 
 -- Two words that are written one after the other: how they read, and that they are all that has changed.
 module _ (w : List ℕ) (i a b : ℕ) where
-  abbrev two : List ℕ
+  abbrev pub two : List ℕ
   two = set (set w i a) (i + 1) b
 
-  two-read : i + 1 < length w → (getD two i 0 ≡ a) × (getD two (i + 1) 0 ≡ b)
+  pub two-read : i + 1 < length w → (getD two i 0 ≡ a) × (getD two (i + 1) 0 ≡ b)
   two-read h = (
     getD-set-other (set w i a) (i + 1) i b 0 (omega arith) ∙ getD-set-same w i a 0 (omega arith),
     getD-set-same (set w i a) (i + 1) b 0 (rw (length-set w i a) h),
   )
 
-  two-only : (to : ℕ) → i + 2 ≤ to → OnlyIn i to w two
+  pub two-only : (to : ℕ) → i + 2 ≤ to → OnlyIn i to w two
   two-only to h =
       only-then (only-set i to w i a (omega arith) (omega arith))
       (only-set i to (set w i a) (i + 1) b (omega arith) (omega arith))

@@ -29,4 +29,7 @@ pub mod Rising
 pub mod Ordering
 pub mod Stored
 pub mod SortedWords
-pub mod SortingLoops
+pub mod Segments
+pub mod Tallies
+pub mod Heads
+pub mod Placing

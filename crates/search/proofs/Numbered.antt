@@ -25,7 +25,7 @@ choose P op n {e} {f} p q = go (eqb op n) (eqb→eq op n) (ne-test op n)
 
 -- What holds of the operations 1 to 6, each at its number, and of a crash at every other number holds of the
 -- event at its number.
-numbered : (e : event.Event) (P : ℕ → Event → Type 0)
+pub numbered : (e : event.Event) (P : ℕ → Event → Type 0)
     → let i : Machine = e .machine .0 in let y : Location = e .location .0 in let v : Value = e .value in
     P 1 (LStore i y v) → P 2 (RStore i y v) → P 3 (MStore i y v) → P 4 (Load i y v)
     → P 5 (LFlush i y) → P 6 (RFlush i y)

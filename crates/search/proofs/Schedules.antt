@@ -1,6 +1,6 @@
 -- A schedule of one location, event by event: steps of the location in order that, woven with the events, run
 -- at it. They name machines and locations of the system, and are no more than the events allow for.
-use Prim.Native.Nat.{ℕ, suc, _≤_}
+use Prim.Native.Nat.{ℕ, suc, _≤_, _<_}
 use native.Mathlib.Omega.{arith}
 use mathlib.Core.Path.{_≡_, refl, sym, ap, _∙_, subst}
 use mathlib.Core.Logic.{⊎-elim}
@@ -29,7 +29,7 @@ use Rattle.search.specs.Allowance.{allowance}
 use Rattle.search.proofs.Ordering.{inOrder-append, silentAt-silentOf}
 use Rattle.search.proofs.OneMore.{weave-more}
 use Rattle.search.proofs.Trails.{runsTo-none, runsTo-append}
-use Rattle.search.proofs.StepWords.{at-inOrder, at-own}
+use Rattle.search.proofs.StepWords.{at-inOrder, at-own, at-before}
 use Rattle.search.proofs.Allowance.{rank-runs}
 
 -- The silent steps of the actions are those of the schedule.
@@ -37,7 +37,7 @@ abbrev Of : List Step → List Action → Type 0
 Of ps acts = silents acts ≡ map silentOf ps
 
 -- If each step of the schedule is one of x, so is each silent step of the actions.
-own-steps : (x : Location) (acts : List Action) (ps : List Step) → Of ps acts
+pub own-steps : (x : Location) (acts : List Action) (ps : List Step) → Of ps acts
     → ((p : Step) → List·Memᴰ p ps → p .location ≡ x) → T (ownSteps x acts)
 unfolding ownSteps silents
 own-steps x [] ps e own = tt
@@ -74,6 +74,7 @@ named-steps sys (silent a ∷ acts) (q ∷ ps) e t p m =
 pub record Leading (s : Site) (es : List Event) (ps : List Step) (z : Local) : Type 0 where
   pub own : (p : Step) → List·Memᴰ p ps → p .location ≡ s .location .0
   pub order : T (inOrder 0 (length es) ps)
+  pub early : (p : Step) → List·Memᴰ p ps → p .before < length es
   pub runs : (sys : Topology) → Describes sys s
       → RunsTo sys (s .location .0) (weave es ps) (startAt sys (s .location .0)) z
 
@@ -83,6 +84,7 @@ leading-none s =
     record {
       own = λ p i. absurd (List·Memᴰ·not-nil i);
       order = tt;
+      early = λ p i. absurd (List·Memᴰ·not-nil i);
       runs = λ sys d. rw (d .begins) (runsTo-none sys (s .location .0));
     }
 
@@ -103,6 +105,10 @@ leading-more {s} {es} {ps} l e t is size runs =
       order = rw more
           (inOrder-append 0 t (suc t) ps qs (omega arith) (omega arith) before
           (at-inOrder t (suc t) x is (omega arith)));
+      early = λ p i. ⊎-elim
+          (λ b. omega (arith, l .early p b, more))
+          (λ b. omega (arith, at-before t x is p b, more))
+          (List·Memᴰ·append-cases ps i);
       runs = λ sys d. rw woven (runsTo-append sys x (weave es ps) (l .runs sys d) (runs sys d));
     }
 
@@ -133,6 +139,7 @@ module _ (s : Site) (es : List Event) (ps : List Step) (z : Local) (l : Leading 
       record {
         own = l .own;
         inOrder = l .order;
+        early = l .early;
         few = bounded;
         named = λ sys p. named-steps sys (weave es ps) ps (silents-weave es ps) (named-weave sys p);
         runs = λ sys d. l .runs sys d .runs;

@@ -27,6 +27,11 @@ pub at-own : (n x : ℕ) (is : List Machine) (p : Step) → List·Memᴰ p (map 
 at-own n x [] p m = absurd (List·Memᴰ·not-nil m)
 at-own n x (i ∷ is) p m = ⊎-elim (ap (λ (q : Step). q .location)) (at-own n x is p) (List·Memᴰ·cases-cons m)
 
+pub at-before : (n x : ℕ) (is : List Machine) (p : Step) → List·Memᴰ p (map (stepAt n x) is) → p .before ≡ n
+at-before n x [] p m = absurd (List·Memᴰ·not-nil m)
+at-before n x (i ∷ is) p m =
+    ⊎-elim (ap (λ (q : Step). q .before)) (at-before n x is p) (List·Memᴰ·cases-cons m)
+
 -- The word of a step holds it.
 word-step : (n x i : ℕ) → n < 256 → x < 256 → stepOfWord (wordOf n x i) ≡ stepAt n x i
 unfolding stepOfWord

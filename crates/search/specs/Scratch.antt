@@ -1,4 +1,5 @@
--- How the search uses the scratch area: two words for each event, four for each row, one for each step.
+-- How the search uses the scratch area: two words for each event, four for each row, one for each step, and
+-- one for each count of events before a step.
 use Prim.Native.Nat.{ℕ, zero, suc, _+_, _*_, _/_, _%_, _≤_, _<_}
 use mathlib.Core.Path.{_≡_}
 use mathlib.Core.List.{List, [], _∷_, _++_}
@@ -7,7 +8,8 @@ use Rattle.model.specs.Cxl0.{Event, Value}
 use Rattle.model.specs.Operations.{eventOf}
 use Rattle.search.specs.declared.Row.{Row}
 
--- Where the events, the rows and the two lists of steps begin.
+-- Where the events, the rows, the two lists of steps and the heads by which they are ordered begin, and where
+-- the heads end.
 abbrev pub EVENTS : ℕ
 EVENTS = 0
 
@@ -19,6 +21,12 @@ STEPS = 778
 
 abbrev pub SORTED : ℕ
 SORTED = 1034
+
+abbrev pub HEADS : ℕ
+HEADS = 1804
+
+abbrev pub HEADS-END : ℕ
+HEADS-END = 1934
 
 -- Event j: operation, machine and location in one word, the value in the next.
 unfoldable pub eventIn : List ℕ → ℕ → Event

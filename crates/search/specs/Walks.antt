@@ -92,6 +92,7 @@ pub record Walkable (s : Site) (m count : ℕ) (w : List ℕ) : Type 0 where
 pub record Schedules (s : Site) (es : List Event) (ps : List Step) : Type 0 where
   pub own : (p : Step) → List·Memᴰ p ps → p .location ≡ s .location .0
   pub inOrder : T (inOrder 0 (length es) ps)
+  pub early : (p : Step) → List·Memᴰ p ps → p .before < length es
   pub few : length ps ≤ allowance (s .location .0) es
   pub named : (sys : Topology) → Placed sys s es
       → (p : Step) → List·Memᴰ p ps → T (named sys (silent (silentOf p)))

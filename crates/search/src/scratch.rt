@@ -1,5 +1,5 @@
-// The words of the scratch area: events, rows with the values of the copies, and steps, at the places that
-// specs/Scratch.antt gives.
+// The words of the scratch area: events, rows with the values of the copies, steps, and the heads by which
+// the steps are ordered, at the places that specs/Scratch.antt gives.
 //
 // Callers see to it that the scratch area has at least 4,096 words, that an event's number is below 129, and
 // that a row's is at most 129.
@@ -20,6 +20,8 @@ pub const ROWS: usize = 258;
 pub const STEPS: usize = 778;
 
 pub const SORTED: usize = 1034;
+
+pub const HEADS: usize = 1804;
 
 // Event j.
 pub fn get_event(w: &[u64], j: usize) -> Event

@@ -8,7 +8,7 @@ use borrow.Author.Needs.{needs}
 use Rattle.log.specs.Opening.{Opens}
 use Rattle.log.proofs.Each.{Bytes, bytes-by-index}
 use Rattle.judge.specs.Clearing.{zeros}
-use Rattle.judge.proofs.Deciding.{fit-out, fit-scratch, few-events, decoded-searchable, decided}
+use Rattle.judge.proofs.Deciding.{fit-out, fit-scratch, loadable, loads-loaded, decided}
 use Rattle.judge.proofs.decide.Statement.{statement}
 use Rattle.judge.proofs.decide.Tie as tie
 
@@ -31,15 +31,14 @@ open-requires c κs = search needs
 cast-events : tie.Need-cast-events
 cast-events c = search needs
 
-decode-requires : tie.Need-decode-requires
-decode-requires c κs =
+load-requires : tie.Need-load-requires
+load-requires c κs =
     let k = c .before .before in
     let a = start k .args in
     let (fit, log-read) = start k .pre in
-    let (r, read, heads) = log-read in (
-      fit-scratch (now (a .out)) (a .offset) (now (a .scratch)) fit,
-      few-events (log k) (bytes k) r read (a .head) heads (k .«open» .result) (opens k),
-    )
+    let (r, read, heads) = log-read in
+    loadable (log k) (bytes k) r read (a .head) heads (k .«open» .result) (opens k)
+    (fit-scratch (now (a .out)) (a .offset) (now (a .scratch)) fit)
 
 settle-requires : tie.Need-settle-requires
 settle-requires c κs =
@@ -47,10 +46,9 @@ settle-requires c κs =
     let k = d .before .before .before in
     let a = start k .args in
     let (fit, log-read) = start k .pre in
-    let (r, read, heads) = log-read in
-    let words = fit-scratch (now (a .out)) (a .offset) (now (a .scratch)) fit in (
+    let (r, read, heads) = log-read in (
       fit-out (now (a .out)) (a .offset) (now (a .scratch)) fit,
-      decoded-searchable (log k) (bytes k) r read (a .head) heads (k .«open» .result) (opens k) (d .decode .ensures) words,
+      loads-loaded (log k) (bytes k) r read (a .head) heads (k .«open» .result) (opens k) (d .load .ensures),
     )
 
 clear-requires : tie.Need-clear-requires
@@ -72,8 +70,9 @@ returns c =
     let (fit, log-read) = start k .pre in
     let (r, read, heads) = log-read in
     let (settled, sized) = t .settle .ensures in
-    decided (log k) (bytes k) r read (a .head) heads (k .«open» .result) (opens k) (d .decode .ensures) (now (a .scratch))
-    settled (e .clear .ensures ∙ ap zeros (sized ∙ d .decode .ensures .sized))
+    let loads = d .load .ensures in
+    decided (log k) (bytes k) r read (a .head) heads (k .«open» .result) (opens k) loads (now (a .scratch)) settled
+    (e .clear .ensures ∙ ap zeros (sized ∙ loads .sized))
 
 pub decide-spec : {M : Type 1} → statement M
 decide-spec =
@@ -81,7 +80,7 @@ decide-spec =
     (tie.spec
     open-requires
     cast-events
-    decode-requires
+    load-requires
     settle-requires
     clear-requires
     same-length

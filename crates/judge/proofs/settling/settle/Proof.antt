@@ -1,32 +1,34 @@
 -- `settle` issues a sound verdict.
 use native.Mathlib.Omega.{arith}
-use mathlib.Core.Path.{_≡_, sym, _∙_}
+use mathlib.Core.Path.{_≡_, _∙_}
 use denote.Ref.{now}
 use borrow.Author.Needs.{needs}
 use Rattle.search.specs.Scratch.{SORTED}
-use Rattle.judge.specs.Parts.{Limited}
-use Rattle.judge.proofs.Searching.{searchable-kept}
-use Rattle.judge.proofs.Soundness.{part-words, settled-impossible, runs-still, settled-allowed}
+use Rattle.judge.specs.Visiting.{Visits}
+use Rattle.judge.proofs.Concluding.{few-events, ends-first, few-steps, steps-listed, arranged}
+use Rattle.judge.proofs.Soundness.{part-words, settled-impossible, settled-allowed}
 use Rattle.judge.proofs.settling.settle.Statement.{statement}
 use Rattle.judge.proofs.settling.settle.Tie as tie
 
--- After the search for how many events have a run: the beginning, and what was found.
-abbrev start : tie.After-slice-known3 → tie.Start
-start c = c .before .before .before .before .before .before
+-- After the visits: the beginning, and what they came to.
+abbrev start : tie.After-struct-known → tie.Start
+start c = c .before .before .before .before .before .before .before
 
-limited : (c : tie.After-slice-known3)
-    → Limited (start c .args .t) (start c .args .events) (now (start c .args .w)) (c .before .before .limit .result)
-    (c .before .before .limit .last .0)
-limited c = c .before .before .limit .ensures
+visits : (c : tie.After-struct-known)
+    → Visits (start c .args .t) (start c .args .events) (start c .args .t .locations) (now (start c .args .w))
+    (c .before .before .before .visit-all .result) (c .before .before .before .visit-all .last .0)
+visits c = c .before .before .before .visit-all .ensures
 
-limit-requires : tie.Need-limit-requires
-limit-requires c κs = search needs
+visit-all-requires : tie.Need-visit-all-requires
+visit-all-requires c κs = search needs
 
 add-issue-impossible : tie.Need-add-issue-impossible
 add-issue-impossible c = search needs
 
 cast-issue-impossible : tie.Need-cast-issue-impossible
-cast-issue-impossible c = omega (arith, start (c .before .before) .pre .1 .few)
+cast-issue-impossible c =
+    let k = c .before .before .before in
+    omega (arith, few-events (start k .pre .1) (visits k), c .before .before .if1 .taken)
 
 issue-impossible-requires : tie.Need-issue-impossible-requires
 issue-impossible-requires c κs = search needs
@@ -35,23 +37,26 @@ same-length : tie.Need-same-length
 same-length c = search needs
 
 same-length-2 : tie.Need-same-length-2
-same-length-2 c = limited (c .before .before .before .before .before) .frame .sized
+same-length-2 c = visits (c .before .before .before .before .before .before) .kept .sized
 
 returns : tie.Need-returns
 returns c =
-    let k = c .before .before .before .before in
-    let s = start (k .before) in
-    let settled = settled-impossible (s .pre .1) (limited (k .before)) (now (s .args .out)) (s .args .offset) (s .pre .0) in
-    (settled (k .if1 .taken) (c .before .before .issue-impossible .ensures), limited (k .before) .frame .sized)
+    let h = c .before .before .before .before .before in
+    let k = h .before in
+    let a = start k .args in
+    let first = ends-first (start k .pre .1) (visits k) (h .if1 .taken) in
+    let settled = settled-impossible (now (a .out)) (a .offset) (start k .pre .0) _ first in
+    (settled (c .before .before .issue-impossible .ensures), visits k .kept .sized)
 
-arrange-requires : tie.Need-arrange-requires
-arrange-requires c κs =
+order-requires : tie.Need-order-requires
+order-requires c κs =
     let k = c .before .before in
-    let l = limited k in
-    (searchable-kept (start k .pre .1) (l .frame), runs-still (start k .pre .1) l (c .before .if1 .left))
+    steps-listed (start k .pre .1) (visits k) (c .before .if1 .left)
 
 add-issue-allowed : tie.Need-add-issue-allowed
-add-issue-allowed c = omega (arith, c .before .before .before .arrange .ensures .few)
+add-issue-allowed c =
+    let h = c .before .before .before .before .before .before in
+    omega (arith, few-steps (start (h .before) .pre .1) (visits (h .before)) (h .if1 .left))
 
 sub-issue-allowed : tie.Need-sub-issue-allowed
 sub-issue-allowed c = omega arith
@@ -61,8 +66,11 @@ part-issue-allowed-start c = omega arith
 
 part-issue-allowed-end : tie.Need-part-issue-allowed-end
 part-issue-allowed-end c =
-    let a = c .before .before .before .before .arrange .ensures in
-    omega (arith, a .few, a .sized)
+    let h = c .before .before .before .before .before .before .before in
+    let k = h .before in
+    let few = few-steps (start k .pre .1) (visits k) (h .if1 .left) in
+    let sized = c .before .before .before .before .before .order .ensures .sized in
+    omega (arith, few, sized, visits k .kept .sized, start k .pre .1 .linked .room)
 
 issue-allowed-requires : tie.Need-issue-allowed-requires
 issue-allowed-requires c κs = search needs
@@ -72,32 +80,34 @@ same-length-3 c = search needs
 
 same-length-4 : tie.Need-same-length-4
 same-length-4 c =
-    let k = c .before .before .before .before .before .before .before .before in
-    k .arrange .ensures .sized ∙ limited (k .before .before .before) .frame .sized
+    let o = c .before .before .before .before .before .before .before .before .before in
+    o .order .ensures .sized ∙ visits (o .before .before .before) .kept .sized
 
 returns-2 : tie.Need-returns-2
 returns-2 c =
-    let a = c .before .before .before .before .before .before .before .before in
-    let k = a .before .before .before in
-    let s = start k in
-    let settled = settled-allowed (s .pre .1) (limited k) (now (s .args .out)) (s .args .offset) (s .pre .0) in
-    let part = part-words SORTED (a .arrange .result) (a .arrange .last .0) in (
-      settled (a .arrange .ensures) _ part (c .before .before .issue-allowed .ensures),
-      a .arrange .ensures .sized ∙ limited k .frame .sized,
+    let o = c .before .before .before .before .before .before .before .before .before in
+    let h = o .before .before in
+    let k = h .before in
+    let a = start k .args in
+    let found = arranged (start k .pre .1) (visits k) (h .if1 .left) (o .order .ensures) in
+    let settled = settled-allowed (now (a .out)) (a .offset) (start k .pre .0) found in
+    let part = part-words SORTED (k .before .before .before .visit-all .result .steps) (o .order .last .0) in (
+      settled _ part (c .before .before .issue-allowed .ensures),
+      o .order .ensures .sized ∙ visits k .kept .sized,
     )
 
 pub settle-spec : {M : Type 1} → statement M
 settle-spec =
     tie.close
     (tie.spec
-    limit-requires
+    visit-all-requires
     add-issue-impossible
     cast-issue-impossible
     issue-impossible-requires
     same-length
     same-length-2
     returns
-    arrange-requires
+    order-requires
     add-issue-allowed
     sub-issue-allowed
     part-issue-allowed-start

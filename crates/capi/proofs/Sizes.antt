@@ -1,0 +1,64 @@
+-- The counts of the answers fit the bits that they get.
+use Prim.Native.Nat.{ℕ, _≤_}
+use native.Mathlib.Omega.{arith}
+use mathlib.Core.Path.{_≡_, refl, sym, ap}
+use mathlib.Core.Bool.{Bool, true, false, _&&_}
+use mathlib.Core.List.{List}
+use lib.Dec.{leb, leb→le}
+use lib.ListN.{length}
+use Rattle.model.specs.Schedule.{Step, inOrder}
+use Rattle.model.proofs.Tests.{and-l}
+use Rattle.log.specs.Records.{Records, systemOf}
+use Rattle.log.specs.Reading.{Log, accepted, rejected, readLog}
+use Rattle.log.specs.Recording.{Recorded, count, rejected, recorded}
+use Rattle.log.proofs.Lengths.{count-most}
+use Rattle.verdict_file.specs.Files.{Verdict, allowed, impossible, fileOf, stepsMost}
+use Rattle.verdict_file.specs.Schedules.{everyStepFits, scheduleFits}
+use Rattle.verdict_file.proofs.Files.{length-allowed, length-impossible, short}
+use Rattle.verdict_file.proofs.Accepted as schedules
+use Rattle.replay.specs.Replaying.{yes, replayLog}
+use Rattle.replay.proofs.Demand2.{yes-exactly}
+use Rattle.judge.specs.Judging.{Outcome, refusal, told, verdict, areasFit, Right, JudgesLog, Judges}
+use Rattle.capi.specs.Packing.{RecordedFits, JudgedFits}
+
+-- A new count of used bytes is at most 1,160, so it fits 32 bits.
+pub recorded-fits : (buf : List ℕ) (used tag : ℕ) (p : List ℕ) (a : Recorded) → a ≡ recorded buf used tag p
+    → RecordedFits a
+recorded-fits buf used tag p (count n) e = omega (arith, count-most buf used tag p n (sym e))
+recorded-fits buf used tag p (Recorded.rejected number) e = tt
+
+-- A file that replay says yes to has at most 256 steps.
+steps-most : (s : List ℕ) (ps : List Step) → replayLog s (fileOf (allowed ps)) ≡ yes → length ps ≤ stepsMost
+unfolding scheduleFits
+steps-most s ps e =
+    let (r, qs, log, read, run) = yes-exactly s (fileOf (allowed ps)) .0 e in
+    let n = length (r .events) in
+    let (same, fits) = schedules.accepts (systemOf r) n qs (fileOf (allowed ps)) .0 read in
+    let ordered = and-l (leb (length qs) stepsMost && inOrder 0 n qs) (everyStepFits (systemOf r) qs) fits in
+    let few = and-l (leb (length qs) stepsMost) (inOrder 0 n qs) ordered in
+    omega (arith, ap length same, length-allowed ps, length-allowed qs, leb→le (length qs) stepsMost few)
+
+-- A right verdict has at most 256 steps and 1,544 bytes, so both fit 16 bits.
+told-fits : (s : List ℕ) (r : Records) (v : Verdict) → Right s r v → JudgedFits (told v)
+unfolding Right told
+told-fits s r (allowed ps) right =
+    let few = steps-most s ps right in
+    (omega arith, omega (arith, short (allowed ps) few))
+told-fits s r (impossible event) right = (omega arith, omega (arith, length-impossible event))
+
+-- So do those of what the judge answers to a log that is read.
+log-fits : (s : List ℕ) (l : Log) (out : List ℕ) (offset : ℕ) (scratch : List ℕ) (o : Outcome)
+    → JudgesLog s l out offset scratch o → JudgedFits (o .answer)
+unfolding JudgesLog refusal verdict
+log-fits s (rejected number) out offset scratch o h = rw h tt
+log-fits s (accepted r) out offset scratch o (v, right, same) = rw same (told-fits s r v right)
+
+-- So do those of every answer of the judge.
+pub judged-fits : (s out : List ℕ) (offset : ℕ) (scratch : List ℕ) (o : Outcome)
+    → Judges s out offset scratch o → JudgedFits (o .answer)
+unfolding Judges refusal
+judged-fits s out offset scratch o h = go (areasFit out offset scratch) refl
+  where
+    go : (b : Bool) → areasFit out offset scratch ≡ b → JudgedFits (o .answer)
+    go true e = log-fits s (readLog s) out offset scratch o (rw (e, Judges) at h)
+    go false e = let same : o ≡ refusal 1 out scratch = rw (e, Judges) at h in rw same tt

@@ -1,0 +1,33 @@
+-- The parts of an answer are read back from their bits: those of a packed answer are the answer's.
+use Prim.Native.Nat.{ℕ, _*_, _/_, _%_, _^_, _<_}
+use native.Mathlib.Omega.{arith}
+use mathlib.Core.Path.{_≡_}
+use Rattle.log.specs.Recording.{count}
+use Rattle.log.specs.Answers.{holds}
+use Rattle.replay.specs.Replaying.{no}
+use Rattle.judge.specs.Judging.{gives}
+use Rattle.capi.specs.Packing.{packRecorded, packSummary, packReplayed, packJudged}
+
+-- So many bits of a number from a place on.
+abbrev pub bits : (from size : ℕ) → ℕ → ℕ
+bits from size packed = packed / 2 ^ from % 2 ^ size
+
+pub recorded-parts : (n : ℕ) → n < 2 ^ 32
+    → let p = packRecorded (count n) in
+    (bits 0 8 p ≡ 0) × (bits 8 32 p ≡ n)
+recorded-parts n l = (omega arith, omega arith)
+
+pub summary-parts : (n q x e : ℕ) → n < 2 ^ 8 → x < 2 ^ 8 → e < 2 ^ 8
+    → let p = packSummary (holds n q x e) in
+    (bits 0 8 p ≡ 0) × (bits 8 8 p ≡ n) × (bits 16 8 p ≡ x) × (bits 24 8 p ≡ e)
+summary-parts n q x e l m k = (omega arith, omega arith, omega arith, omega arith)
+
+pub no-parts : (n : ℕ) → n < 2 ^ 8
+    → let p = packReplayed (no n) in
+    (bits 0 8 p ≡ 0) × (bits 8 1 p ≡ 0) × (bits 16 8 p ≡ n)
+no-parts n l = (omega arith, omega arith, omega arith)
+
+pub judged-parts : (v e s l : ℕ) → v < 2 → e < 2 ^ 8 → s < 2 ^ 16 → l < 2 ^ 16
+    → let p = packJudged (gives v e s l) in
+    (bits 0 8 p ≡ 0) × (bits 8 1 p ≡ v) × (bits 16 8 p ≡ e) × (bits 24 16 p ≡ s) × (bits 40 16 p ≡ l)
+judged-parts v e s l a b c d = (omega arith, omega arith, omega arith, omega arith, omega arith)

@@ -1,0 +1,50 @@
+-- The answers of the four calls, each as one number of 64 bits. Bits 0 to 7 are the number of a refusal, or 0
+-- if there is none, and a refusal leaves all other bits 0. Bits that are not named are 0.
+use Prim.Native.Nat.{ℕ, _+_, _*_, _^_, _<_}
+use mathlib.Core.Path.{_≡_}
+use mathlib.Core.List.{List}
+use Rattle.log.specs.Recording.{Recorded, count, rejected}
+use Rattle.log.specs.Answers.{Summary, holds, refused}
+use Rattle.replay.specs.Replaying as replaying
+use Rattle.judge.specs.Judging as judging
+use Rattle.judge.specs.Judging.{Judges}
+
+-- Bits 8 to 39 are the new count of used bytes.
+abbrev pub packRecorded : Recorded → ℕ
+packRecorded (count n) = n * 2 ^ 8
+packRecorded (rejected number) = number
+
+-- Bits 8 to 15 are the machines, 16 to 23 the locations, 24 to 31 the events.
+abbrev pub packSummary : Summary → ℕ
+packSummary (holds machines persistent locations events) =
+    machines * 2 ^ 8 + locations * 2 ^ 16 + events * 2 ^ 24
+packSummary (refused number) = number
+
+-- Bit 8 is set if the answer is yes, and if it is no, bits 16 to 23 are the events passed.
+abbrev pub packReplayed : replaying.Answer → ℕ
+packReplayed replaying.yes = 2 ^ 8
+packReplayed (replaying.no passed) = passed * 2 ^ 16
+packReplayed (replaying.refused number) = number
+
+-- Bit 8 is set if the verdict is allowed, bits 16 to 23 are the event, 24 to 39 the step count, 40 to 55 the
+-- length of the file.
+abbrev pub packJudged : judging.Answer → ℕ
+packJudged (judging.gives verdict event steps length) =
+    verdict * 2 ^ 8 + event * 2 ^ 16 + steps * 2 ^ 24 + length * 2 ^ 40
+packJudged (judging.refused number) = number
+
+-- The counts of an answer fit the bits that they get. Those of every answer do, as proofs/Sizes.antt shows.
+abbrev pub RecordedFits : Recorded → Type 0
+RecordedFits (count n) = n < 2 ^ 32
+RecordedFits (rejected number) = Unit {0}
+
+abbrev pub JudgedFits : judging.Answer → Type 0
+JudgedFits (judging.gives verdict event steps length) = (steps < 2 ^ 16) × (length < 2 ^ 16)
+JudgedFits (judging.refused number) = Unit {0}
+
+-- The number is the judge's answer, packed, and the two areas are as the judge leaves them.
+pub record JudgesPacked (s out : List ℕ) (offset : ℕ) (scratch : List ℕ) (packed : ℕ) (out' scratch' : List ℕ)
+    : Type 0 where
+  pub answer : judging.Answer
+  pub packs : packed ≡ packJudged answer
+  pub judges : Judges s out offset scratch (record { answer = answer; out = out'; scratch = scratch' })

@@ -1,0 +1,55 @@
+// The calls for C, Rust and Python: `cxl0_record`, `cxl0_read`, `cxl0_replay` and `cxl0_judge` make the proved
+// calls and pack each answer in one number, as specs/Packing.antt says. In C a slice is a pointer and a length.
+// No call has a `requires`.
+mod packing;
+
+use judge::judge;
+use log::reader::read;
+use log::recording::record;
+use packing::pack_judged;
+use packing::pack_reading;
+use packing::pack_recorded;
+use packing::pack_replayed;
+use replay::replay;
+ghost use mathlib.Core.Path.{_≡_};
+ghost use Rattle.log.specs.Reading.{readLog};
+ghost use Rattle.log.specs.Recording.{recorded, written};
+ghost use Rattle.log.specs.Answers.{summaryOf};
+ghost use Rattle.replay.specs.Replaying.{replayLog};
+ghost use Rattle.capi.specs.Packing.{packRecorded, packSummary, packReplayed, JudgesPacked};
+
+// Puts one field after the used bytes of a buffer. No other byte changes; on a refusal none does.
+#[no_mangle]
+pub extern "C" fn cxl0_record(buf: &mut [u8], used: usize, tag: u8, payload: &[u8]) -> u64
+    ensures { λ r. ⌜ r ≡ packRecorded (recorded (now (buf .entry)) used tag (now (payload .entry))) ⌝ }
+    ensures { λ r. ⌜ now (buf .exit) ≡ written (recorded (now (buf .entry)) used tag (now (payload .entry)))
+        (now (buf .entry)) used tag (now (payload .entry)) ⌝ }
+{
+    pack_recorded(record(buf, used, tag, payload))
+}
+
+// Reads a log to its end.
+#[no_mangle]
+pub extern "C" fn cxl0_read(log: &[u8]) -> u64
+    ensures { λ r. ⌜ r ≡ packSummary (summaryOf (readLog (now (log .entry)))) ⌝ }
+{
+    pack_reading(read(log))
+}
+
+// Replays a log with the schedule of a verdict file that says allowed.
+#[no_mangle]
+pub extern "C" fn cxl0_replay(log: &[u8], schedule: &[u8]) -> u64
+    ensures { λ r. ⌜ r ≡ packReplayed (replayLog (now (log .entry)) (now (schedule .entry))) ⌝ }
+{
+    pack_replayed(replay(log, schedule))
+}
+
+// Judges a log: the verdict file goes to the output from the offset on, and the scratch area is all zero after
+// a verdict. A refusal changes neither.
+#[no_mangle]
+pub extern "C" fn cxl0_judge(log: &[u8], out: &mut [u8], offset: usize, scratch: &mut [u64]) -> u64
+    ensures { λ r. ⌜ JudgesPacked (now (log .entry)) (now (out .entry)) offset (now (scratch .entry))
+        r (now (out .exit)) (now (scratch .exit)) ⌝ }
+{
+    pack_judged(judge(log, out, offset, scratch))
+}

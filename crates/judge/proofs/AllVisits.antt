@@ -1,0 +1,71 @@
+-- Visits one after the other, from none to all locations.
+use Prim.Native.Nat.{ℕ, suc, _+_, _*_, _≤_, _<_}
+use native.Mathlib.Nat.{le-refl}
+use native.Mathlib.Omega.{arith}
+use mathlib.Core.Path.{_≡_, refl, ap}
+use mathlib.Core.List.{List, map}
+use lib.Dec.{T}
+use lib.ListN.{length, take, drop}
+use lib.Seq.{slice-empty}
+use Rattle.model.specs.Cxl0.{Topology, isLocation, Event}
+use Rattle.model.specs.Meaning.{topologyOf}
+use Rattle.model.specs.declared.Topology as topology
+use Rattle.search.specs.Scratch.{STEPS, eventsIn}
+use Rattle.search.specs.Access.{OnlyIn}
+use Rattle.search.proofs.Frames.{only-none, only-then, getD-above}
+use Rattle.search.proofs.Events.{events-length}
+use Rattle.judge.specs.Linking.{LOG, HEADS, Linked}
+use Rattle.judge.specs.Visiting.{logged, Loaded, Visited, Visitable, Visits}
+use Rattle.judge.specs.declared.visiting.Progress.{Progress}
+use Rattle.judge.proofs.Gathering.{gathered-none}
+
+-- Words below LOG do not matter to the log.
+module _ {w w' : List ℕ} (only : OnlyIn 0 LOG w w') (n : ℕ) where
+  pub logged-same : logged n w' ≡ logged n w
+  logged-same = ap (λ (l : List ℕ). eventsIn l n) (only .above)
+
+  linked-same : {es : List Event} → Linked es w → Linked es w'
+  linked-same l =
+      record {
+        room = omega (arith, l .room, only .sized);
+        few = l .few;
+        events = rw (only .above) (l .events);
+        places = λ j h. rw (getD-above only (LOG + 2 * j) (omega arith)) (l .places j h);
+        owns = λ x j h o. rw (getD-above only (LOG + 2 * j) (omega arith)) (l .owns x j h o);
+        crashes = λ j h. rw (getD-above only (LOG + 2 * j) (omega arith)) (l .crashes j h);
+        heads = λ x h. rw (getD-above only (HEADS + x) (omega arith)) (l .heads x h);
+      }
+
+  pub loaded-same : {t : topology.Topology} → Loaded t n w → Loaded t n w'
+  loaded-same l =
+      record { linked = rw logged-same (linked-same (l .linked)); limits = l .limits; named = rw logged-same (l .named) }
+
+module _ {t : topology.Topology} {n : ℕ} {w : List ℕ} (loaded : Loaded t n w) where
+  pub visits-none : Visits t n 0 w (record { events = n; steps = 0 }) w
+  visits-none =
+      let size = events-length (drop LOG w) n in
+      record {
+        kept = only-none 0 LOG w;
+        visited = record {
+          most = omega (arith, size);
+          runs = λ y h. absurd (omega arith);
+          ends = λ h. absurd (omega (arith, size));
+          steps = λ e. (rw (slice-empty STEPS w), rw (slice-empty STEPS w) (gathered-none (topologyOf t) (logged n w)));
+        };
+      }
+
+  module _ {x : ℕ} {p : Progress} {w' : List ℕ} (v : Visits t n x w p w') where
+    pub visits-can : T (isLocation (topologyOf t) x) → Visitable t n x p w'
+    visits-can listed =
+        record {
+          loaded = loaded-same (v .kept) n loaded;
+          listed = listed;
+          visited = rw (logged-same (v .kept) n) (v .visited);
+        }
+
+    pub visits-more : {q : Progress} {w'' : List ℕ} → Visits t n (suc x) w' q w'' → Visits t n (suc x) w q w''
+    visits-more next =
+        record {
+          kept = only-then (v .kept) (next .kept);
+          visited = rw (logged-same (v .kept) n) at (next .visited);
+        }

@@ -1,0 +1,156 @@
+-- Once every location was visited: the first impossible event, or a schedule of all events.
+use Prim.Native.Nat.{ℕ, suc, _+_, _≤_, _<_}
+use native.Mathlib.Omega.{arith}
+use native.Mathlib.Nat.{le-of-suc-le-suc}
+use mathlib.Core.Path.{_≡_}
+use mathlib.Core.Bool.{_&&_}
+use mathlib.Core.List.{List, map}
+use lib.Dec.{T, leb, le→leb}
+use lib.ListN.{length, take, drop, length-map}
+use lib.Seq.{length-slice, take-all}
+use Rattle.model.specs.Cxl0.{Topology, WellFormed, Event, Run, HasRun, FirstImpossible}
+use Rattle.model.specs.Schedule.{Step, weave, inOrder}
+use Rattle.model.specs.Meaning.{topologyOf}
+use Rattle.model.specs.Words.{stepOfWord}
+use Rattle.model.specs.declared.Topology as topology
+use Rattle.model.proofs.Tests.{and-i, T→true}
+use Rattle.model.proofs.Limits.{within, listed-below}
+use Rattle.model.proofs.Split.{split}
+use Rattle.model.proofs.Prefixes.{has-run-fewer}
+use Rattle.verdict_file.specs.Files.{stepsMost}
+use Rattle.verdict_file.specs.Writing.{stepsFit, writable}
+use Rattle.verdict_file.specs.Schedules.{everyStepFits, scheduleFits}
+use Rattle.search.specs.Scratch.{STEPS, SORTED}
+use Rattle.search.specs.Ordering.{ordered}
+use Rattle.search.specs.SortedWords.{wordsAt, stepsAt, Listed, Ordered}
+use Rattle.search.proofs.Events.{events-length}
+use Rattle.search.proofs.Ordering.{ordered-run, ordered-inOrder}
+use Rattle.search.proofs.SortedWords.{listed-steps, ordered-steps}
+use Rattle.judge.specs.Gathering.{Gathered}
+use Rattle.judge.specs.Linking.{LOG}
+use Rattle.judge.specs.Parts.{Arranged}
+use Rattle.judge.specs.Visiting.{logged, Loaded, Visits}
+use Rattle.judge.specs.declared.visiting.Progress.{Progress}
+use Rattle.judge.proofs.Fitting.{run-fits, words-fit}
+use Rattle.judge.proofs.Gathering.{gathered-few}
+use Rattle.judge.proofs.NamedEvents.{named-take}
+
+-- If the first m events have a run and one more have none, that one is the first impossible.
+first-impossible : (sys : Topology) (es : List Event) (m : ℕ) → m < length es
+    → HasRun sys (take m es) → ¬ HasRun sys (take (suc m) es) → FirstImpossible sys es (suc m)
+unfolding FirstImpossible
+first-impossible sys es m h run none =
+    (omega arith, h, none, λ d l. has-run-fewer sys es d m (le-of-suc-le-suc l) run)
+
+module _ {t : topology.Topology} {n : ℕ} {w : List ℕ} (loaded : Loaded t n w) {p : Progress} {w' : List ℕ}
+    (v : Visits t n (t .locations) w p w') where
+  abbrev sys : Topology
+  sys = topologyOf t
+
+  abbrev es : List Event
+  es = logged n w
+
+  abbrev m : ℕ
+  m = p .events
+
+  size : length es ≡ n
+  size = events-length (drop LOG w) n
+
+  pub few-events : n ≤ 128
+  few-events = omega (arith, size, loaded .linked .few)
+
+  wellFormed : WellFormed sys
+  wellFormed = within t (loaded .limits) .well-formed
+
+  few-machines : sys .machines ≤ 6
+  unfolding topologyOf
+  few-machines = within t (loaded .limits) .machines-few
+
+  -- Every location has a run of the first m events, so the system has one.
+  runs : HasRun sys (take m es)
+  runs =
+      split sys wellFormed (take m es) .1 (
+        named-take sys es m (loaded .named),
+        λ y l. v .visited .runs y (listed-below t y l),
+      )
+
+  pub ends-first : m < n → FirstImpossible sys es (suc m)
+  ends-first h =
+      let fewer : m < length es = omega (arith, size) in
+      let none = v .visited .ends fewer in
+      first-impossible sys es m fewer runs
+      (λ r. none .2 (split sys wellFormed (take (suc m) es) .0 r .1 (none .0) (none .1)))
+
+  -- All events have a run: the list has the schedules of all locations.
+  module _ (all : n ≤ m) where
+    everything : m ≡ length es
+    everything = omega (arith, v .visited .most, size)
+
+    counted : length (wordsAt STEPS (p .steps) w') ≡ p .steps
+    counted = v .visited .steps everything .0
+
+    gathered : Gathered sys es (t .locations) (stepsAt STEPS (p .steps) w')
+    gathered = v .visited .steps everything .1
+
+    pub few-steps : p .steps ≤ 256
+    few-steps =
+        omega (
+          arith,
+          gathered-few sys es gathered,
+          loaded .linked .few,
+          counted,
+          length-map (wordsAt STEPS (p .steps) w') stepOfWord,
+        )
+
+    room : 4096 ≤ length w'
+    room = omega (arith, v .kept .sized, loaded .linked .room)
+
+    -- It can be ordered.
+    pub steps-listed : Listed (p .steps) n w'
+    steps-listed =
+        listed-steps room few-steps (omega (arith, size, loaded .linked .few))
+        (λ q i. rw size at (gathered .before q i))
+
+    module _ {out : List ℕ} (sorted : Ordered (p .steps) n w' out) where
+      abbrev steps : List Step
+      steps = stepsAt SORTED (p .steps) out
+
+      same : steps ≡ ordered n (stepsAt STEPS (p .steps) w')
+      same = ordered-steps sorted
+
+      run : Run sys (weave es steps)
+      run =
+          let each = ordered-run sys wellFormed es (stepsAt STEPS (p .steps) w') (loaded .named) (gathered .named)
+          (λ x l. gathered .runs x (listed-below t x l)) in
+          rw same (rw size at each)
+
+      words-counted : length (wordsAt SORTED (p .steps) out) ≡ p .steps
+      words-counted =
+          let few = few-steps in
+          let inside : SORTED + p .steps ≤ length out = omega (arith, sorted .sized, room) in
+          omega (arith, length-slice SORTED (SORTED + p .steps) out inside)
+
+      fitting : T (everyStepFits sys steps)
+      fitting = run-fits sys wellFormed es steps run
+
+      -- In order, its steps are a schedule of the events.
+      pub arranged : Arranged sys es (p .steps) out
+      unfolding scheduleFits writable
+      arranged =
+          let most = few-steps in
+          let words = wordsAt SORTED (p .steps) out in
+          let short = leb (length words) stepsMost in
+          let few = leb (length steps) stepsMost in
+          let order = inOrder 0 (length es) steps in
+          record {
+            few = most;
+            words = T→true {b = writable words}
+                (and-i short (stepsFit words) (le→leb (length words) stepsMost (omega (arith, words-counted)))
+                (words-fit sys few-machines words fitting));
+            fits = and-i (few && order) (everyStepFits sys steps)
+                (and-i few order
+                (le→leb (length steps) stepsMost (omega (arith, words-counted, length-map words stepOfWord)))
+                (rw (same, size) (ordered-inOrder n (stepsAt STEPS (p .steps) w'))))
+                fitting;
+            run = run;
+          }

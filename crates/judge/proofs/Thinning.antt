@@ -1,0 +1,143 @@
+-- The events that matter at a location have a run there exactly if all events have one.
+use Prim.Native.Nat.{ℕ}
+use native.Mathlib.Omega.{arith}
+use mathlib.Core.Path.{_≡_, refl, ap, _∙_, subst, sym}
+use mathlib.Core.Logic.{_↔_}
+use mathlib.Core.Bool.{Bool, true, false, cond, not, _&&_}
+use mathlib.Core.List.{List, [], _∷_}
+use lib.Dec.{T, eqb}
+use Rattle.model.specs.Cxl0.{Machine, Location, Value, Topology, owner, initial, clears}
+use Rattle.model.specs.Cxl0.{Event, LStore, RStore, MStore, Load, LFlush, RFlush, Crash}
+use Rattle.model.specs.Cxl0.{Propagate, WriteBack, event}
+use Rattle.model.specs.Sharers.{has, remove}
+use Rattle.model.specs.OneLocation.{Local, eventAt, silentAt, concerns, enabledAt, effect, possibleAt, nextAt}
+use Rattle.model.specs.OneLocation.{startAt, HasRunAt, Silently, still, step}
+use Rattle.model.proofs.Tests.{true→T, not→false, and-l, and-r}
+use Rattle.model.proofs.Sharers.{remove-le}
+use Rattle.model.proofs.SilentSteps.{has→some}
+use Rattle.model.proofs.Gaps.{has-run-nil, after-gap, has-run-cons}
+use Rattle.judge.specs.Thinning.{ownEvent, noneOwn, Thins, rest, keep, skip, Leads, begin, before}
+
+-- ---- events elsewhere
+
+module _ (sys : Topology) (x : Location) where
+  -- An event that does not concern x leaves x as it is.
+  pub elsewhere-next : (e : Event) (s : Local) → T (not (eventAt x e)) → nextAt sys x (event e) s ≡ s
+  unfolding nextAt concerns
+  elsewhere-next e s t = rw (not→false {b = eventAt x e} t)
+
+  -- It is possible at x.
+  pub elsewhere-possible : (e : Event) (s : Local) → T (not (eventAt x e))
+      → possibleAt sys x (event e) s ≡ true
+  unfolding possibleAt concerns
+  elsewhere-possible e s t = rw (not→false {b = eventAt x e} t)
+
+  -- So is every event that does not name x, crashes too.
+  pub foreign-possible : (e : Event) (s : Local) → T (not (ownEvent x e))
+      → possibleAt sys x (event e) s ≡ true
+  unfolding ownEvent eventAt
+  foreign-possible (LStore i y v) s t = elsewhere-possible (LStore i y v) s t
+  foreign-possible (RStore i y v) s t = elsewhere-possible (RStore i y v) s t
+  foreign-possible (MStore i y v) s t = elsewhere-possible (MStore i y v) s t
+  foreign-possible (Load i y v) s t = elsewhere-possible (Load i y v) s t
+  foreign-possible (LFlush i y) s t = elsewhere-possible (LFlush i y) s t
+  foreign-possible (RFlush i y) s t = elsewhere-possible (RFlush i y) s t
+  foreign-possible (Crash i) s t = unfold possibleAt concerns enabledAt in refl
+
+  cond-same : (b : Bool) (v : Value) → cond b v v ≡ v
+  cond-same true v = refl
+  cond-same false v = refl
+
+  -- A crash leaves the start as it is.
+  start-crash : (i : Machine) → effect sys x (event (Crash i)) (startAt sys x) ≡ startAt sys x
+  unfolding effect startAt
+  start-crash i =
+      let none : remove i 0 ≡ 0 = omega (arith, remove-le i 0) in
+      let same = cond-same (clears sys (Crash i) x) (initial sys x) in
+      λ j. record { code = none j; copy = 0; memory = same j }
+
+  -- At the start an event that does not name x leaves x as it is.
+  pub foreign-next : (e : Event) → T (not (ownEvent x e))
+      → nextAt sys x (event e) (startAt sys x) ≡ startAt sys x
+  unfolding ownEvent eventAt
+  foreign-next (LStore i y v) t = elsewhere-next (LStore i y v) (startAt sys x) t
+  foreign-next (RStore i y v) t = elsewhere-next (RStore i y v) (startAt sys x) t
+  foreign-next (MStore i y v) t = elsewhere-next (MStore i y v) (startAt sys x) t
+  foreign-next (Load i y v) t = elsewhere-next (Load i y v) (startAt sys x) t
+  foreign-next (LFlush i y) t = elsewhere-next (LFlush i y) (startAt sys x) t
+  foreign-next (RFlush i y) t = elsewhere-next (RFlush i y) (startAt sys x) t
+  foreign-next (Crash i) t = unfold nextAt concerns in start-crash i
+
+  -- ---- silent steps
+
+  -- Where no machine holds a copy, x has no silent step.
+  quiet : {s t : Local} → Silently sys x s t → s .code ≡ 0 → t ≡ s
+  unfolding enabledAt
+  quiet still z = refl
+  quiet (step {s} (Propagate i y) p r) z =
+      let other : Bool = not (eqb i (owner sys x)) in
+      let q = and-r (silentAt x (Propagate i y)) (other && has i (s .code)) p in
+      absurd (has→some i (s .code) (and-r other (has i (s .code)) q) z)
+  quiet (step {s} (WriteBack y) p r) z =
+      let k = owner sys x in
+      absurd (has→some k (s .code) (and-r (silentAt x (WriteBack y)) (has k (s .code)) p) z)
+
+  -- ---- runs
+
+  -- Events of which none names x have a run at x from everywhere.
+  none-run : (es : List Event) → T (noneOwn x es) → (s : Local) → HasRunAt sys x es s
+  unfolding noneOwn
+  none-run [] t s = has-run-nil sys x s
+  none-run (e ∷ es) t s =
+      let here = and-l (not (ownEvent x e)) (noneOwn x es) t in
+      let more = none-run es (and-r (not (ownEvent x e)) (noneOwn x es) t) (nextAt sys x (event e) s) in
+      has-run-cons sys x e es s .1 (s, still, true→T (foreign-possible e s here), more)
+
+  -- One event more that is possible at s and leaves s as it is.
+  more-run : (e : Event) (es : List Event) (s : Local) → possibleAt sys x (event e) s ≡ true
+      → nextAt sys x (event e) s ≡ s → HasRunAt sys x es s → HasRunAt sys x (e ∷ es) s
+  more-run e es s can same r =
+      has-run-cons sys x e es s .1 (s, still, true→T can, subst (HasRunAt sys x es) (sym same) r)
+
+  -- A gap before a run makes a run of the same events.
+  gap-run : {s t : Local} (es : List Event) → Silently sys x s t → HasRunAt sys x es t → HasRunAt sys x es s
+  gap-run es g r = let m = after-gap sys x g (r .0) (r .2) (r .3) in (m .0, m .1 ∙ r .1, m .2, m .3)
+
+-- From everywhere all events have a run at x exactly if those kept have one.
+pub thins-run : (sys : Topology) {x : Location} {n : ℕ} {es kept : List Event} {places : List ℕ}
+    → Thins x n es kept places → (s : Local) → HasRunAt sys x es s ↔ HasRunAt sys x kept s
+thins-run sys {x} (rest {es} t) s = (λ r. has-run-nil sys x s, λ r. none-run sys x es t s)
+thins-run sys {x} (keep {e} {es} {kept} h) s = (
+  λ r.
+      let f = has-run-cons sys x e es s .0 r in
+      let more = thins-run sys h (nextAt sys x (event e) (f .0)) .0 (f .3) in
+      has-run-cons sys x e kept s .1 (f .0, f .1, f .2, more),
+  λ r.
+      let f = has-run-cons sys x e kept s .0 r in
+      let more = thins-run sys h (nextAt sys x (event e) (f .0)) .1 (f .3) in
+      has-run-cons sys x e es s .1 (f .0, f .1, f .2, more),
+)
+thins-run sys {x} (skip {e} {es} {kept} t h) s = (
+  λ r.
+      let f = has-run-cons sys x e es s .0 r in
+      let then = subst (HasRunAt sys x es) (elsewhere-next sys x e (f .0) t) (f .3) in
+      gap-run sys x kept (f .1) (thins-run sys h (f .0) .0 then),
+  λ r.
+      more-run sys x e es s (elsewhere-possible sys x e s t) (elsewhere-next sys x e s t)
+      (thins-run sys h s .1 r),
+)
+
+-- From the start they have one too, if what comes before the first event that names x is left out.
+pub leads-run : (sys : Topology) {x : Location} {n : ℕ} {es kept : List Event} {places : List ℕ}
+    → Leads x n es kept places → HasRunAt sys x es (startAt sys x) ↔ HasRunAt sys x kept (startAt sys x)
+leads-run sys {x} (begin h) = thins-run sys h (startAt sys x)
+leads-run sys {x} (before {e} {es} {kept} t h) = (
+  λ r.
+      let f = has-run-cons sys x e es (startAt sys x) .0 r in
+      let same = quiet sys x (f .1) (unfold startAt in refl) in
+      let then = ap (nextAt sys x (event e)) same ∙ foreign-next sys x e t in
+      leads-run sys h .0 (subst (HasRunAt sys x es) then (f .3)),
+  λ r.
+      let can = foreign-possible sys x e (startAt sys x) t in
+      more-run sys x e es (startAt sys x) can (foreign-next sys x e t) (leads-run sys h .1 r),
+)

@@ -1,0 +1,299 @@
+-- One location more: what its search says of the log's events, from the events that were picked for it.
+use Prim.Native.Nat.{ℕ, zero, suc, _+_, _*_, _/_, _%_, _≤_, _<_}
+use native.Mathlib.Nat.{le-refl, le-of-suc-le-suc, eq-or-lt-of-le}
+use native.Mathlib.Omega.{arith}
+use mathlib.Core.Path.{_≡_, refl, sym, ap, _∙_, subst}
+use mathlib.Core.Logic.{_⊎_, ⊎-elim}
+use mathlib.Core.Bool.{not}
+use mathlib.Core.List.{List, [], _∷_, _++_, map, map-append, append-nil, List·Memᴰ, List·Memᴰ·not-nil}
+use lib.Dec.{T}
+use lib.ListN.{length, getD, take, drop, length-take, length-append, length-map}
+use lib.Seq.{take-all, take-take}
+use Rattle.model.specs.Cxl0.{Location, Topology, isLocation, owner, initial, WellFormed, Event, event, allNamed}
+use Rattle.model.specs.Schedule.{Step, weave, weaveFrom, steps, inOrder}
+use Rattle.model.specs.OneLocation.{startAt, HasRunAt, runsAt}
+use Rattle.model.specs.Meaning.{topologyOf}
+use Rattle.model.specs.Words.{stepOfWord}
+use Rattle.model.specs.declared.Topology as topology
+use Rattle.model.proofs.Gaps.{has-run-nil}
+use Rattle.model.proofs.Limits.{within, listed-below}
+use Rattle.search.specs.declared.Site.{Site}
+use Rattle.search.specs.Scratch.{EVENTS, ROWS, STEPS, eventsFrom, eventsIn}
+use Rattle.search.specs.Sites.{Describes}
+use Rattle.search.specs.Access.{WORDS, MOST, OnlyIn}
+use Rattle.search.specs.SortedWords.{wordsAt, stepsAt}
+use Rattle.search.specs.Allowance.{allowance}
+use Rattle.search.specs.Walks.{Placed, Walkable, Schedules}
+use Rattle.search.proofs.Prefixes.{has-run-at-prefix}
+use Rattle.search.proofs.Frames.{only-then, only-wider, getD-below}
+use Rattle.search.proofs.Events.{events-take, events-length, events-same}
+use Rattle.judge.specs.Gathering.{Gathered}
+use Rattle.judge.specs.Thinning.{Leads, retimed}
+use Rattle.judge.specs.Linking.{LOG, placeIn, placesFrom, placesIn, Linked, Picked}
+use Rattle.judge.specs.Visiting.{logged, Loaded, Prepared, Searched, Extended, Visited, Visitable, Visits}
+use Rattle.judge.specs.declared.visiting.Progress.{Progress}
+use Rattle.judge.proofs.Described.{described}
+use Rattle.judge.proofs.NamedEvents.{named-take}
+use Rattle.judge.proofs.EventMachines.{machines}
+use Rattle.judge.proofs.Gathering.{gathered-few, gathered-more}
+use Rattle.judge.proofs.Lists.{list-kept}
+use Rattle.judge.proofs.Retimings.{places-at}
+use Rattle.judge.proofs.Extending.{places-same}
+use Rattle.judge.proofs.Thinning.{leads-run}
+use Rattle.judge.proofs.KeptEvents.{leads-take, leads-named}
+use Rattle.judge.proofs.RetimedSchedules.{leads-schedules}
+
+-- No steps are a schedule for no events.
+schedules-none : (s : Site) → Schedules s [] []
+unfolding inOrder weave weaveFrom steps runsAt
+schedules-none s =
+    record {
+      own = λ p i. absurd (List·Memᴰ·not-nil i);
+      inOrder = tt;
+      early = λ p i. absurd (List·Memᴰ·not-nil i);
+      few = omega arith;
+      named = λ sys placed p i. absurd (List·Memᴰ·not-nil i);
+      runs = λ sys d. tt;
+    }
+
+module _ {t : topology.Topology} {n x : ℕ} {p : Progress} {w : List ℕ} (can : Visitable t n x p w) where
+  abbrev sys : Topology
+  sys = topologyOf t
+
+  abbrev es : List Event
+  es = logged n w
+
+  abbrev m : ℕ
+  m = p .events
+
+  size : length es ≡ n
+  size = events-length (drop LOG w) n
+
+  few : n ≤ 128
+  few = omega (arith, size, can .loaded .linked .few)
+
+  room : WORDS ≤ length w
+  room = can .loaded .linked .room
+
+  wellFormed : WellFormed sys
+  wellFormed = within t (can .loaded .limits) .well-formed
+
+  few-machines : sys .machines ≤ 6
+  unfolding topologyOf
+  few-machines = within t (can .loaded .limits) .machines-few
+
+  -- The events can be picked.
+  pub pick-can : (es : List Event) × Linked es w × (m ≤ length es)
+  pick-can = (es, can .loaded .linked, can .visited .most)
+
+  pub pick-low : x < 32
+  pick-low =
+      omega (arith, listed-below t x (can .listed), within t (can .loaded .limits) .locations-few)
+
+  -- Fewer events have a run at the locations before.
+  before-fewer : (d : ℕ) → d ≤ m → (y : Location) → y < x → HasRunAt sys y (take d es) (startAt sys y)
+  before-fewer d h y l =
+      rw (← take-take d m es h) (has-run-at-prefix sys y (take m es) d (startAt sys y) (can .visited .runs y l))
+
+  -- With a run of the first d events here, all locations up to x have one.
+  runs-more : (d : ℕ) → d ≤ m → HasRunAt sys x (take d es) (startAt sys x)
+      → (y : Location) → y < suc x → HasRunAt sys y (take d es) (startAt sys y)
+  runs-more d h here y l =
+      ⊎-elim
+      (λ e. subst (λ (z : Location). HasRunAt sys z (take d es) (startAt sys z)) (sym e) here)
+      (before-fewer d h y)
+      (eq-or-lt-of-le (le-of-suc-le-suc l))
+
+  module _ {k : ℕ} {w₁ : List ℕ} (picked : Picked x m w k w₁) where
+    leads : Leads x 0 (take m es) (eventsIn w₁ k) (placesIn w₁ k)
+    leads = picked .leads es (can .loaded .linked) (can .visited .most)
+
+    few-picked : k ≤ MOST
+    few-picked = omega (arith, picked .few, can .visited .most, size, few)
+
+    kept-named : T (allNamed sys (map event (eventsIn w₁ k)))
+    kept-named = leads-named sys leads (named-take sys es m (can .loaded .named))
+
+    frame₁ : OnlyIn 0 STEPS w w₁
+    frame₁ = only-wider (picked .frame) (omega arith) (omega arith)
+
+    -- The picked events can be searched at a site of the system.
+    pub pick-prepared : {s : Site} → Describes sys s → Prepared s k w₁
+    pick-prepared d =
+        record {
+          room = omega (arith, room, picked .frame .sized);
+          few = few-picked;
+          system = sys;
+          describes = d;
+          machines = machines sys few-machines w₁ k kept-named;
+        }
+
+    -- The list of steps is as it was.
+    list-same : {w₂ : List ℕ} → OnlyIn 0 STEPS w w₂ → wordsAt STEPS (p .steps) w₂ ≡ wordsAt STEPS (p .steps) w
+    list-same frame = list-kept frame (omega (arith, room)) (p .steps)
+
+    to-log : {w₂ : List ℕ} → OnlyIn 0 STEPS w w₂ → OnlyIn 0 LOG w w₂
+    to-log frame = only-wider frame (omega arith) (omega arith)
+
+    all-taken : m ≡ length es → take m es ≡ es
+    all-taken e = take-all m es (omega arith)
+
+    -- A schedule of the picked events, retimed, is one of the log's events, if these are all.
+    module _ {s : Site} (here : s .location .0 ≡ x) (d : Describes sys s) where
+      placed : Placed sys s es
+      placed = record { describes = d; wellFormed = wellFormed; listed = rw here (can .listed); named = can .loaded .named }
+
+      whole : m ≡ length es → {qs : List Step} → Schedules s (eventsIn w₁ k) qs
+          → Schedules s es (retimed (placesIn w₁ k) qs)
+      whole e sch =
+          let all = rw (all-taken e, ← here) at leads in
+          leads-schedules all (sch .early) sch
+
+      gathered-here : m ≡ length es → {ps qs : List Step} → Gathered sys es x ps
+          → Schedules s (eventsIn w₁ k) qs → Gathered sys es (suc x) (ps ++ retimed (placesIn w₁ k) qs)
+      gathered-here e g sch = rw (← here) (gathered-more sys es (rw (← here) at g) (whole e sch) placed)
+
+    -- ---- no event was picked
+
+    -- A site that describes x.
+    abbrev site : Site
+    site =
+        record {
+          location = record { 0 = x };
+          owner = record { 0 = owner sys x };
+          volatile = not (sys .persistent (owner sys x));
+          initial = initial sys x;
+        }
+
+    pub visit-none : k ≡ 0 → Visits t n (suc x) w p w₁
+    unfolding eventsFrom retimed
+    visit-none e =
+        let d : Describes sys site = described t (can .loaded .limits) (can .listed) refl refl refl in
+        let none : eventsIn w₁ k ≡ [] = rw e in
+        let run : HasRunAt sys x (eventsIn w₁ k) (startAt sys x) = rw none (has-run-nil sys x (startAt sys x)) in
+        record {
+          kept = to-log frame₁;
+          visited = record {
+            most = can .visited .most;
+            runs = runs-more m (le-refl m) (leads-run sys leads .1 run);
+            ends = can .visited .ends;
+            steps = λ all.
+                let old = can .visited .steps all in
+                let words = list-same frame₁ in
+                let same : stepsAt STEPS (p .steps) w₁ ≡ stepsAt STEPS (p .steps) w ++ [] =
+                ap (map stepOfWord) words ∙ sym (append-nil (stepsAt STEPS (p .steps) w)) in
+                let sch : Schedules site (eventsIn w₁ k) [] = rw none (schedules-none site) in
+                (rw words (old .0), rw same (gathered-here refl d all (old .1) sch));
+          };
+        }
+
+    -- ---- events were picked, and searched
+
+    module _ {s : Site} (here : s .location .0 ≡ x) (d : Describes sys s) {good : ℕ} {w₂ : List ℕ}
+        (found : Searched s k w₁ good w₂) where
+      frame₂ : OnlyIn 0 STEPS w w₂
+      frame₂ = only-then frame₁ (only-wider (found .frame) (omega arith) (omega arith))
+
+      abbrev RunsHere : List Event → Type 0
+      RunsHere l = HasRunAt sys x l (startAt sys x)
+
+      run-good : RunsHere (take good (eventsIn w₁ k))
+      run-good = rw (events-take w₁ good k (found .most)) (rw here at (found .runs sys d))
+
+      -- The place of the first event that has no run.
+      pub visit-place : good < k → placeIn EVENTS w₂ good ≡ getD (placesIn w₁ k) good 0
+      visit-place l =
+          let below = getD-below (found .frame) (EVENTS + 2 * good) (omega (arith, few-picked)) in
+          ap (λ (v : ℕ). v / 16777216 % 256) below ∙ sym (places-at w₁ k good l)
+
+      pub visit-placed : good < k → (WORDS ≤ length w₂) × (good < MOST)
+      visit-placed l = (omega (arith, room, frame₂ .sized), omega (arith, few-picked))
+
+      -- Not all of them have a run.
+      pub visit-ends : good < k → (e : ℕ) → e ≡ placeIn EVENTS w₂ good
+          → Visits t n (suc x) w (record { events = e; steps = p .steps }) w₂
+      visit-ends l e at =
+          let place : getD (placesIn w₁ k) good 0 ≡ e = sym (at ∙ visit-place l) in
+          let cut = rw place at (leads-take leads good (rw (events-length w₁ k) l)) in
+          let below : e < m = omega (arith, cut .0, length-take m es, can .visited .most) in
+          let runs : RunsHere (take e es) =
+          rw (← take-take e m es (omega arith)) (leads-run sys (cut .1) .1 run-good) in
+          let none : ¬ RunsHere (take (suc e) es) = λ r.
+          let kept = leads-run sys (cut .2) .0 (rw (take-take (suc e) m es below) r) in
+          found .ends sys d l (rw here (rw (events-take w₁ (suc good) k l) at kept)) in
+          record {
+            kept = to-log frame₂;
+            visited = record {
+              most = omega (arith, can .visited .most);
+              runs = runs-more e (omega arith) runs;
+              ends = λ h. (x, can .listed, none);
+              steps = λ all. absurd (omega (arith, can .visited .most));
+            };
+          }
+
+      module _ (good-all : good ≡ k) where
+        run-all : RunsHere (take m es)
+        run-all =
+            let all : take good (eventsIn w₁ k) ≡ eventsIn w₁ k = take-all good (eventsIn w₁ k) (rw (events-length w₁ k) (omega arith)) in
+            leads-run sys leads .1 (rw all at run-good)
+
+        -- All of them have a run, but not all events of the log had one before.
+        pub visit-same : m < n → Visits t n (suc x) w p w₂
+        visit-same l =
+            record {
+              kept = to-log frame₂;
+              visited = record {
+                most = can .visited .most;
+                runs = runs-more m (le-refl m) run-all;
+                ends = can .visited .ends;
+                steps = λ all. absurd (omega (arith, size));
+              };
+            }
+
+        -- All events have a run so far: the schedule can be looked for.
+        module _ (all : n ≤ m) where
+          everything : m ≡ length es
+          everything = omega (arith, can .visited .most, size)
+
+          old : Gathered sys es x (stepsAt STEPS (p .steps) w)
+          old = can .visited .steps everything .1
+
+          pub visit-walkable : Walkable s k (p .steps) w₂
+          visit-walkable =
+              let ready = found .ready good-all in
+              let counted = can .visited .steps everything .0 in
+              let same = events-same (found .frame) k few-picked in
+              let names : T (allNamed sys (map event (eventsIn w₂ k))) = rw same kept-named in
+              record {
+                few = omega (arith, counted, gathered-few sys es old, size, few, length-map (wordsAt STEPS (p .steps) w) stepOfWord);
+                ready = ready .0;
+                rows = ready .1;
+                system = sys;
+                placed = record { describes = d; wellFormed = wellFormed; listed = rw here (can .listed); named = names };
+                runs = rw (same, ← good-all) (found .runs sys d);
+              }
+
+          pub visit-extends : {more : ℕ} {w₃ : List ℕ} → Extended s k (p .steps) w₂ more w₃
+              → Visits t n (suc x) w (record { events = m; steps = more }) w₃
+          visit-extends {more} {w₃} new =
+              let before = wordsAt STEPS (p .steps) w in
+              let words : wordsAt STEPS more w₃ ≡ before ++ new .words =
+              new .list ∙ ap (λ (l : List ℕ). l ++ new .words) (list-same frame₂) in
+              let events = events-same (found .frame) k few-picked in
+              let places : placesIn w₂ k ≡ placesIn w₁ k = places-same (found .frame) k few-picked in
+              let timed : stepsAt STEPS more w₃ ≡ stepsAt STEPS (p .steps) w ++ retimed (placesIn w₁ k) (new .steps) =
+              ap (map stepOfWord) words ∙ map-append stepOfWord before (new .words)
+              ∙ ap (_++_ (stepsAt STEPS (p .steps) w)) (rw places at (new .timed)) in
+              let counted = can .visited .steps everything .0 in
+              record {
+                kept = only-then (to-log frame₂) (only-wider (new .frame) (omega arith) (omega arith));
+                visited = record {
+                  most = can .visited .most;
+                  runs = runs-more m (le-refl m) run-all;
+                  ends = can .visited .ends;
+                  steps = λ e. (
+                    rw words (omega (arith, length-append before (new .words), counted, new .counted)),
+                    rw timed (gathered-here here d everything old (rw events at (new .schedules))),
+                  );
+                };
+              }

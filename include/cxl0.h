@@ -1,0 +1,79 @@
+/* Malluvom's calls for C: a proved judge of CXL0 logs. Link with libcapi.a, which `rt staticlib capi` builds at
+ * target/staticlib/libcapi.a.
+ *
+ * A buffer is a pointer and a length; the length of `scratch` counts 64-bit numbers. Buffers must not overlap. Nothing
+ * else is asked of the arguments. Each answer is one number: bits 0 to 7 are the number of a refusal, or 0 if there is
+ * none, and a refusal leaves all other bits 0 and every buffer as it was. Bits that are not named are 0. */
+#ifndef CXL0_H
+#define CXL0_H
+
+#include <stddef.h>
+#include <stdint.h>
+
+#ifdef __cplusplus
+extern "C" {
+#endif
+
+/* Refusals, in the words of the glossary. */
+enum cxl0_refusal {
+    CXL0_BUFFER_TOO_SHORT = 1,
+    CXL0_TRUNCATED = 2,
+    CXL0_UNEXPECTED_TAG = 3,
+    CXL0_WRONG_LENGTH = 4,
+    CXL0_BAD_TOPOLOGY = 5,
+    CXL0_BAD_OWNER = 6,
+    CXL0_TOO_MANY = 7,
+    CXL0_UNKNOWN_OPERATION = 8,
+    CXL0_NO_SUCH_MACHINE = 9,
+    CXL0_NO_SUCH_LOCATION = 10,
+    CXL0_RESERVED_NOT_ZERO = 11,
+    CXL0_TRAILING_BYTES = 12,
+    CXL0_BAD_SCHEDULE = 13
+};
+
+/* A verdict file has at most so many bytes, which the output must have after the offset. */
+#define CXL0_FILE_MOST 1544
+/* The scratch must have at least so many 64-bit numbers. */
+#define CXL0_SCRATCH_LEAST 4096
+/* An accepted log has at most so many bytes. */
+#define CXL0_LOG_MOST 1160
+
+/* Puts one field after the first `used` bytes of `buf`; no other byte changes. Bits 8 to 39: the new count of used
+ * bytes. */
+uint64_t cxl0_record(uint8_t *buf, size_t buf_len, size_t used, uint8_t tag, const uint8_t *payload,
+                     size_t payload_len);
+
+/* Reads a log to its end. Bits 8 to 15: machines, 16 to 23: locations, 24 to 31: events. */
+uint64_t cxl0_read(const uint8_t *log, size_t log_len);
+
+/* Follows a log with the silent steps of a verdict file that says allowed. Bit 8: yes; if it is 0, bits 16 to 23: the
+ * number of events passed before the first thing that is not possible. */
+uint64_t cxl0_replay(const uint8_t *log, size_t log_len, const uint8_t *schedule, size_t schedule_len);
+
+/* Judges a log and writes the verdict file into `out` from `offset` on; outside the file `out` is as it was, and
+ * `scratch` is all zero afterwards. Bit 8: allowed, bits 16 to 23: the first impossible event, counted from 1, or 0,
+ * 24 to 39: the number of silent steps, 40 to 55: the length of the file. */
+uint64_t cxl0_judge(const uint8_t *log, size_t log_len, uint8_t *out, size_t out_len, size_t offset,
+                    uint64_t *scratch, size_t scratch_len);
+
+static inline unsigned cxl0_refused(uint64_t answer) { return answer & 0xff; }
+
+static inline size_t cxl0_record_count(uint64_t answer) { return answer >> 8 & 0xffffffff; }
+
+static inline unsigned cxl0_read_machines(uint64_t answer) { return answer >> 8 & 0xff; }
+static inline unsigned cxl0_read_locations(uint64_t answer) { return answer >> 16 & 0xff; }
+static inline unsigned cxl0_read_events(uint64_t answer) { return answer >> 24 & 0xff; }
+
+static inline int cxl0_replay_yes(uint64_t answer) { return answer >> 8 & 1; }
+static inline unsigned cxl0_replay_passed(uint64_t answer) { return answer >> 16 & 0xff; }
+
+static inline int cxl0_judge_allowed(uint64_t answer) { return answer >> 8 & 1; }
+static inline unsigned cxl0_judge_event(uint64_t answer) { return answer >> 16 & 0xff; }
+static inline unsigned cxl0_judge_steps(uint64_t answer) { return answer >> 24 & 0xffff; }
+static inline unsigned cxl0_judge_length(uint64_t answer) { return answer >> 40 & 0xffff; }
+
+#ifdef __cplusplus
+}
+#endif
+
+#endif

@@ -1,0 +1,97 @@
+"""Tests of the Python module: python3 python/test_malluvom.py, after python/build.sh."""
+
+import ctypes
+import doctest
+import sys
+import unittest
+from pathlib import Path
+
+HERE = Path(__file__).resolve().parent
+sys.path.insert(0, str(HERE))
+
+import malluvom  # noqa: E402
+
+EXAMPLES = HERE.parent / "examples"
+
+
+def answer(log: bytes) -> str:
+    """The verdict program's first line."""
+    try:
+        verdict = malluvom.judge(log)
+    except malluvom.Refused as refused:
+        return f"number {refused.number}"
+    return f"allowed {len(verdict.steps)}" if verdict.allowed else f"impossible {verdict.event}"
+
+
+class Examples(unittest.TestCase):
+    def test_verdicts_are_the_stored_ones(self):
+        logs = sorted(EXAMPLES.glob("*/*.log"))
+        self.assertGreater(len(logs), 14)
+        for log in logs:
+            out = log.with_suffix(".out")
+            if out.exists():
+                self.assertEqual(answer(log.read_bytes()), out.read_text().splitlines()[0], log)
+
+    def test_allowed_logs_replay(self):
+        for path in sorted(EXAMPLES.glob("*/*.log")):
+            log = path.read_bytes()
+            if answer(log).startswith("allowed"):
+                file = malluvom.judge(log).file
+                self.assertEqual(malluvom.replay(log, file), malluvom.Replayed(True, 0), path)
+
+
+class Calls(unittest.TestCase):
+    log = (EXAMPLES / "marked" / "08.log").read_bytes()
+
+    def refused(self, number, call, *arguments):
+        with self.assertRaises(malluvom.Refused) as raised:
+            call(*arguments)
+        self.assertEqual(raised.exception.number, number)
+
+    def test_read(self):
+        self.assertEqual(malluvom.read(self.log), malluvom.Counts(machines=3, locations=2, events=6))
+        self.refused(2, malluvom.read, b"")
+        self.refused(12, malluvom.read, self.log + b"\0")
+
+    def test_record(self):
+        buffer = bytearray(b"\xaa" * 9)
+        self.assertEqual(malluvom.record(buffer, 0, 1, b"\x02\x03"), 5)
+        self.refused(6, malluvom.record, buffer, 5, 2, b"\x03")
+        self.refused(1, malluvom.record, buffer, 5, 3, b"\x07\x01\0\0\0")
+        self.refused(1, malluvom.record, buffer, 10, 4, b"")
+        self.assertEqual(malluvom.record(buffer, 5, 4, b""), 8)
+        self.assertEqual(buffer, b"\x01\x02\x00\x02\x03\x04\x00\x00\xaa")
+        self.refused(1, malluvom.record, bytearray(), 1, 4, b"")
+        with self.assertRaises(ValueError):
+            malluvom.record(buffer, -1, 4, b"")
+        with self.assertRaises(ValueError):
+            malluvom.record(buffer, 0, 257, b"")
+
+    def test_replay(self):
+        self.assertEqual(malluvom.replay(self.log, bytes.fromhex("1002000100 1103000000 00 040000")), (False, 0))
+        self.refused(13, malluvom.replay, self.log, b"")
+        self.refused(2, malluvom.replay, b"", b"")
+
+    def test_judge_with_lent_buffers(self):
+        out = bytearray(b"\x07" * (malluvom.FILE_MOST + 3))
+        scratch = (ctypes.c_uint64 * malluvom.SCRATCH_LEAST)(*range(malluvom.SCRATCH_LEAST))
+        self.refused(1, malluvom.judge, self.log, out, 4, scratch)
+        self.refused(2, malluvom.judge, b"", out, 3, scratch)
+        self.assertEqual(scratch[7], 7)
+        impossible = (EXAMPLES / "marked" / "09.log").read_bytes()
+        verdict = malluvom.judge(impossible, out, 3, scratch)
+        self.assertEqual((verdict.allowed, verdict.event, verdict.steps), (False, 6, ()))
+        self.assertEqual(out[:12], bytes.fromhex("070707 1002000006 040000 07"))
+        self.assertFalse(any(scratch))
+
+    def test_names(self):
+        self.assertEqual((malluvom.Refused(1).name, malluvom.Refused(13).name), ("BufferTooShort", "BadSchedule"))
+
+
+def load_tests(loader, tests, pattern):
+    tests.addTests(doctest.DocTestSuite(malluvom))
+    return tests
+
+
+if __name__ == "__main__":
+    unittest.main()

@@ -1,0 +1,53 @@
+//! The four corpora, from fixed seeds.
+
+use corpus::{change_one_load, encode, plausible, Random, Shape, MIXED};
+
+/// So many logs in each.
+const LOGS: usize = 400;
+
+/// A corpus of plausible logs, every second one with one load changed.
+#[derive(Clone, Copy)]
+pub struct Corpus {
+    pub name: &'static str,
+    pub machines: usize,
+    pub locations: usize,
+    pub events: usize,
+    /// Crashes in a hundred events.
+    pub crashes: usize,
+    /// Microseconds of the straightforward search that issue 7 reports.
+    pub reference: usize,
+}
+
+/// The four of issue 7.
+pub const CORPORA: [Corpus; 4] = [
+    Corpus { name: "small", machines: 3, locations: 2, events: 16, crashes: 10, reference: 4 },
+    Corpus { name: "large", machines: 6, locations: 32, events: 128, crashes: 10, reference: 67 },
+    Corpus { name: "deep", machines: 6, locations: 1, events: 128, crashes: 10, reference: 60 },
+    Corpus { name: "crashy", machines: 6, locations: 32, events: 128, crashes: 70, reference: 290 },
+];
+
+impl Corpus {
+    pub fn title(&self) -> String {
+        format!("{} ({}, {}, {})", self.name, self.machines, self.locations, self.events)
+    }
+
+    /// The logs' bytes; the same in every run.
+    pub fn logs(&self) -> Vec<Vec<u8>> {
+        let mut random = Random::new(7);
+        let shape = Shape {
+            machines: self.machines,
+            locations: self.locations,
+            events: self.events,
+            crashes: self.crashes,
+            values: 1000,
+            operations: MIXED,
+        };
+        let mut logs = Vec::with_capacity(LOGS);
+        for number in 0..LOGS {
+            let log = plausible(&mut random, &shape);
+            let odd = number % 2 == 1;
+            logs.push(encode(&if odd { change_one_load(&mut random, &log, shape.values) } else { log }));
+        }
+        logs
+    }
+}

@@ -1,0 +1,112 @@
+//! Measuring. The sides take turns on each log and the whole is repeated, so that a noisy machine moves both.
+
+use std::hint::black_box;
+use std::time::Instant;
+
+use malluvom::{judge_into, Judged, FILE_MOST, SCRATCH_LEAST};
+use second::{judge_bytes, Verdict};
+
+use crate::scan::scan;
+
+/// How often the corpus is measured.
+pub const ROUNDS: usize = 15;
+
+/// Calls in one measurement, so that the clock does not count.
+const CALLS: usize = 4;
+
+/// Microseconds per log.
+pub struct Side {
+    pub mean: f64,
+    pub p99: f64,
+}
+
+/// The three sides.
+pub struct Times {
+    pub proved: Side,
+    pub second: Side,
+    pub scan: Side,
+}
+
+/// Whether both judges agree on all logs, with each proved schedule replayed.
+pub fn agree(logs: &[Vec<u8>]) -> Result<(), String> {
+    let mut judge = malluvom::Judge::new();
+    for log in logs {
+        let proved = judge.judge(log);
+        let same = match (&proved, judge_bytes(log)) {
+            (Ok(malluvom::Verdict::Allowed(schedule)), Ok(Verdict::Allowed(_))) => {
+                malluvom::replay(log, &schedule.to_file()) == Ok(malluvom::Replayed::Yes)
+            }
+            (Ok(malluvom::Verdict::Impossible { event }), Ok(Verdict::Impossible(second))) => *event == second,
+            _ => false,
+        };
+        if !same || !scan(log) {
+            return Err(format!("the judges differ on {log:02x?}: {proved:?}"));
+        }
+    }
+    Ok(())
+}
+
+fn time(mut call: impl FnMut()) -> f64 {
+    let begun = Instant::now();
+    for _ in 0..CALLS {
+        call();
+    }
+    begun.elapsed().as_secs_f64() * 1e6 / CALLS as f64
+}
+
+/// Times both judges and the scan on each log. The proved judge is asked through the static library with buffers that
+/// stay; reading, the verdict's bytes and clearing the scratch are included. The second judge reads, judges and writes
+/// the verdict's bytes into fresh memory, and has no scratch to clear.
+pub fn measure(logs: &[Vec<u8>], scratch: usize) -> Times {
+    let mut out = vec![0; FILE_MOST];
+    let mut scratch = vec![0; scratch];
+    let mut samples = vec![[const { Vec::new() }; 3]; logs.len()];
+    for _ in 0..ROUNDS {
+        for (log, sides) in logs.iter().zip(&mut samples) {
+            let log = black_box(&log[..]);
+            sides[0].push(time(|| {
+                let _ = black_box(judge_into(log, &mut out, 0, &mut scratch));
+            }));
+            sides[1].push(time(|| {
+                let _ = black_box(judge_bytes(log).map(|verdict| second::verdict_file::write(&verdict)));
+            }));
+            sides[2].push(time(|| {
+                let _ = black_box(scan(black_box(log)));
+            }));
+        }
+    }
+    let side = |which: usize| {
+        let medians = samples.iter_mut().map(|sides| median(&mut sides[which]));
+        summary(medians.collect())
+    };
+    let [proved, second, scan] = [0, 1, 2].map(side);
+    Times { proved, second, scan }
+}
+
+fn median(times: &mut [f64]) -> f64 {
+    times.sort_by(f64::total_cmp);
+    times[times.len() / 2]
+}
+
+fn summary(mut times: Vec<f64>) -> Side {
+    times.sort_by(f64::total_cmp);
+    Side { mean: times.iter().sum::<f64>() / times.len() as f64, p99: times[times.len() * 99 / 100] }
+}
+
+/// Microseconds to set so many numbers to zero.
+pub fn clearing(numbers: usize) -> f64 {
+    let mut scratch = vec![1u64; numbers];
+    let mut times: Vec<f64> = (0..1000).map(|_| time(|| black_box(&mut scratch).fill(0))).collect();
+    median(&mut times)
+}
+
+/// The proved judge on one log, once.
+pub fn once(log: &[u8]) {
+    let mut out = vec![0; FILE_MOST];
+    let mut scratch = vec![0; SCRATCH_LEAST];
+    match judge_into(log, &mut out, 0, &mut scratch) {
+        Ok(Judged::Allowed { steps, .. }) => println!("allowed {steps}"),
+        Ok(Judged::Impossible { event, .. }) => println!("impossible {event}"),
+        Err(refusal) => println!("{refusal}"),
+    }
+}

@@ -1,0 +1,81 @@
+#!/usr/bin/env bash
+# All that is tested from outside Rattle: the workspace's tests, the comparison with the second judge, every example
+# against its stored output, and the C and Python interfaces. Builds target/bin/verdict and target/staticlib/libcapi.a
+# if they are not there; MALLUVOM_LIB_DIR names another folder of libcapi.a. The last line is 'N passed, M failed'.
+set -u
+cd "$(dirname "$0")" || exit 2
+work=$(mktemp -d)
+trap 'rm -rf "$work"' EXIT
+library=${MALLUVOM_LIB_DIR:-../target/staticlib}/libcapi.a
+passed=0
+failed=0
+
+# try NAME COMMAND...: runs a check; what it prints is shown if it fails.
+try() {
+    local name=$1
+    shift
+    if "$@" >"$work/out" 2>&1; then
+        echo "ok   $name"
+        passed=$((passed + 1))
+    else
+        cat "$work/out"
+        echo "FAIL $name"
+        failed=$((failed + 1))
+    fi
+}
+
+builds_without_warnings() {
+    cargo build -j1 --release --all-targets 2>&1 | tee "$work/build"
+    [ "${PIPESTATUS[0]}" -eq 0 ] && ! grep -q '^warning' "$work/build"
+}
+
+# Every example through a program that prints as the verdict program does, against its stored output.
+examples_print() {
+    local log status=0
+    for log in ../examples/*/*.log; do
+        if ! "$@" <"$log" | diff - "${log%.log}.out"; then
+            echo "differs: $log"
+            status=1
+        fi
+    done
+    return $status
+}
+
+verdict_script() {
+    local log=../examples/marked/04.log expected=../examples/marked/04.out
+    ../verdict "$log" | diff - "$expected" && ../verdict - <"$log" | diff - "$expected" &&
+        ../verdict <"$log" | diff - "$expected" && ! ../verdict /nowhere && ! ../verdict a b
+}
+
+c_example() {
+    gcc -std=c99 -Wall -Wextra -Werror -pedantic -I../include ../include/example.c "$library" -o "$work/example" &&
+        examples_print "$work/example"
+}
+
+python_module() {
+    ../python/build.sh && python3 ../python/test_malluvom.py
+}
+
+proved_library() {
+    [ -f "$library" ] || (cd .. && rt staticlib capi)
+}
+
+verdict_program() {
+    [ -x ../target/bin/verdict ] || (cd .. && rt check verdict)
+}
+
+try "the proved library" proved_library
+try "the verdict program" verdict_program
+try "format" cargo fmt --check
+try "build without warnings" builds_without_warnings
+try "tests" cargo test -q -j1
+try "examples: both judges" target/release/compare examples ../examples
+try "examples: stored outputs" examples_print ../target/bin/verdict
+try "the verdict script" verdict_script
+try "examples: from C" c_example
+try "examples: from Python" python_module
+try "comparison with the second judge" target/release/compare
+tail -n 1 "$work/out"
+
+echo "$passed passed, $failed failed"
+[ "$failed" -eq 0 ]

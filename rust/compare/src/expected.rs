@@ -1,0 +1,31 @@
+//! What the library must answer: the second judge's answers, packed as include/cxl0.h says.
+
+use second::{Log, Refusal, Replayed};
+
+/// A refusal is its number and nothing else.
+pub fn packed<T>(answer: Result<T, Refusal>, pack: impl FnOnce(T) -> u64) -> u64 {
+    answer.map_or_else(|refusal| u64::from(refusal.0), pack)
+}
+
+pub fn read(log: &Log) -> u64 {
+    u64::from(log.machines) << 8 | (log.owners.len() as u64) << 16 | (log.events.len() as u64) << 24
+}
+
+pub fn record(count: usize) -> u64 {
+    (count as u64) << 8
+}
+
+pub fn replay(replayed: Replayed) -> u64 {
+    match replayed {
+        Replayed::Yes => 1 << 8,
+        Replayed::No(passed) => u64::from(passed) << 16,
+    }
+}
+
+pub fn allowed(steps: usize, length: usize) -> u64 {
+    1 << 8 | (steps as u64) << 24 | (length as u64) << 40
+}
+
+pub fn impossible(event: u8, length: usize) -> u64 {
+    u64::from(event) << 16 | (length as u64) << 40
+}

@@ -1,0 +1,190 @@
+//! The kinds of logs, each from a seed of its own.
+
+use corpus::encode::field;
+use corpus::{change_one_load, damage, encode, litmus, plausible, random_log, Random, Shape};
+use second::{Event, Log, Operation};
+
+use crate::report::Report;
+use crate::trial;
+
+/// A kind of logs, how many there are in one round, and how one is made.
+type Kind = (&'static str, usize, fn(&mut Random) -> Vec<u8>);
+
+const KINDS: [Kind; 6] = [
+    ("1 plausible, by simulating the system", 50_000, simulated),
+    ("2 plausible with one load changed", 60_000, changed),
+    ("3 random", 50_000, any),
+    ("4 near the limits", 20_000, limit),
+    ("5 bytes damaged at random", 50_000, damaged),
+    ("6 like litmus tests, the last load of any value", 150_000, |random| encode(&litmus(random))),
+];
+
+const SMALL: &str = "7 every log of three events or fewer, two machines, one location, two values";
+
+/// Compares all logs of each kind; each round takes other seeds. The small logs are not random and come once.
+pub fn run(round: u64, report: &mut Report) {
+    for (number, (name, count, make)) in KINDS.into_iter().enumerate() {
+        let mut random = Random::new(round << 8 | number as u64);
+        for _ in 0..count {
+            let log = make(&mut random);
+            trial::compare(name, &log, &mut random, report);
+        }
+    }
+    if round == 0 {
+        let mut random = Random::new(KINDS.len() as u64);
+        small(|log| trial::compare(SMALL, log, &mut random, report));
+    }
+}
+
+fn simulated(random: &mut Random) -> Vec<u8> {
+    let shape = Shape::random(random);
+    encode(&plausible(random, &shape))
+}
+
+fn changed(random: &mut Random) -> Vec<u8> {
+    let shape = Shape::random(random);
+    let log = plausible(random, &shape);
+    encode(&change_one_load(random, &log, shape.values))
+}
+
+/// Random events; a random load is most often impossible, so half of these logs are short.
+fn any(random: &mut Random) -> Vec<u8> {
+    let mut shape = Shape::random(random);
+    if random.percent(50) {
+        shape.events = shape.events.min(random.between(1, 8));
+    }
+    encode(&random_log(random, &shape))
+}
+
+fn damaged(random: &mut Random) -> Vec<u8> {
+    let mut shape = Shape::random(random);
+    if random.percent(70) {
+        shape.events = shape.events.min(12);
+        shape.locations = shape.locations.min(3);
+    }
+    let mut log = encode(&plausible(random, &shape));
+    if random.percent(50) {
+        return damage(random, &log);
+    }
+    // One bit alone often leaves a log that is accepted.
+    let at = random.below(log.len());
+    log[at] ^= 1 << random.below(8);
+    log
+}
+
+/// A log that is at a limit, or over it by one, in one respect.
+fn limit(random: &mut Random) -> Vec<u8> {
+    let mut shape = Shape { crashes: 10, values: 3, ..Shape::random(random) };
+    match random.below(8) {
+        0 => {
+            shape.events = 128;
+            let mut log = plausible(random, &shape);
+            let extra = random.below(3);
+            log.events.extend((0..extra).map(|_| crash(1)));
+            encode(&log)
+        }
+        1 => {
+            shape.locations = 32;
+            shape.events = shape.events.min(20);
+            let mut log = plausible(random, &shape);
+            log.owners.extend(vec![1; random.below(3)]);
+            encode(&log)
+        }
+        2 => {
+            let (machines, persistent) = (random.below(9) as u8, random.byte() >> random.below(9).min(7));
+            encode(&Log { machines, persistent, owners: vec![random.below(8) as u8], events: vec![crash(1)] })
+        }
+        3 => cornered(random, &shape),
+        4 => {
+            let bytes = encode(&plausible(random, &shape));
+            let tails: [&[u8]; 4] = [&[0], &[4, 0, 0], &[3, 5], &[0xff; 9]];
+            [&bytes, *random.pick(&tails)].concat()
+        }
+        5 => {
+            let bytes = encode(&plausible(random, &shape));
+            bytes[..random.below(bytes.len())].to_vec()
+        }
+        6 => long_schedule(random),
+        _ => wrong_length(random, &shape),
+    }
+}
+
+fn crash(machine: u8) -> Event {
+    Event { operation: Operation::Crash, machine, location: 0, value: 0 }
+}
+
+/// One event whose bytes are at the edge of what the head allows.
+fn cornered(random: &mut Random, shape: &Shape) -> Vec<u8> {
+    let mut log = plausible(random, shape);
+    log.events.truncate(127);
+    let near = |random: &mut Random, limit: usize| (limit + random.below(2)) as u8;
+    let operation = random.below(9) as u8;
+    let machine = if random.percent(70) { log.machines } else { near(random, log.machines.into()) };
+    let unused = |random: &mut Random| random.below(8) as u8 / 7;
+    let location = if operation == 7 { unused(random) } else { near(random, log.owners.len().saturating_sub(1)) };
+    let value = if operation < 5 { [random.byte(), random.byte()] } else { [unused(random), unused(random)] };
+    let bytes = encode(&log);
+    let open = &bytes[..bytes.len() - 3];
+    let event = field(3, &[operation, machine, location, value[0], value[1]]);
+    [open, &event, &field(4, &[])].concat()
+}
+
+/// Stores by others, each flushed to memory or handed on: as many silent steps as events can force, and more.
+fn long_schedule(random: &mut Random) -> Vec<u8> {
+    let machines = random.between(2, 6) as u8;
+    let mut log = Log { machines, persistent: 0, owners: vec![1], events: Vec::new() };
+    while log.events.len() < 124 {
+        let value = log.events.len() as u16;
+        let event = |operation, machine, value| Event { operation, machine, location: 0, value };
+        log.events.push(event(Operation::LStore, 2, value));
+        for machine in 3..=random.between(2, usize::from(machines)) as u8 {
+            log.events.push(event(Operation::Load, machine, value));
+        }
+        let flush = if random.percent(70) { Operation::RFlush } else { Operation::LFlush };
+        log.events.push(event(flush, 2, 0));
+    }
+    log.events.truncate(128);
+    encode(&log)
+}
+
+/// A field whose length is one off, or whose high byte is set.
+fn wrong_length(random: &mut Random, shape: &Shape) -> Vec<u8> {
+    let mut bytes = encode(&plausible(random, shape));
+    let mut ends = Vec::new();
+    let mut at = 0;
+    while at + 3 <= bytes.len() {
+        ends.push(at);
+        at += 3 + usize::from(bytes[at + 1]);
+    }
+    let at = *random.pick(&ends);
+    match random.below(3) {
+        0 => bytes[at + 1] ^= 1,
+        1 => bytes[at + 2] = 1,
+        _ => bytes[at + 1] = bytes[at + 1].wrapping_sub(1),
+    }
+    bytes
+}
+
+/// Every log of at most three events with values 0 and 1, on one location of two machines.
+fn small(mut compare: impl FnMut(&[u8])) {
+    let mut events = vec![crash(1), crash(2)];
+    for operation in Operation::ALL.into_iter().filter(|operation| operation.uses_location()) {
+        let values = if operation.uses_value() { 0..=1 } else { 0..=0 };
+        for value in values {
+            events.extend([1, 2].map(|machine| Event { operation, machine, location: 0, value }));
+        }
+    }
+    // The machines are alike, so one owner is enough.
+    for persistent in 0..4 {
+        let mut logs = vec![Vec::new()];
+        for _ in 0..3 {
+            logs.iter().for_each(|log| compare(&encode(&small_log(persistent, log))));
+            logs = logs.iter().flat_map(|log| events.iter().map(|&event| [&log[..], &[event]].concat())).collect();
+        }
+        logs.iter().for_each(|log| compare(&encode(&small_log(persistent, log))));
+    }
+}
+
+fn small_log(persistent: u8, events: &[Event]) -> Log {
+    Log { machines: 2, persistent, owners: vec![1], events: events.to_vec() }
+}

@@ -1,0 +1,117 @@
+//! The recorder against the second one and against an encoder that asks nothing.
+
+use corpus::encode::{encode, fields};
+use corpus::Random;
+use second::{Log, Refusal};
+
+use crate::report::{hex, Report};
+use crate::{expected, proved};
+
+/// Records a field or two after parts of the log, and now and then the whole log field by field.
+pub fn compare(log: &[u8], records: Option<&Log>, random: &mut Random, report: &mut Report) {
+    for _ in 0..2 {
+        let used = used_count(log, random);
+        let spare = random.below(12);
+        let mut buffer = log.to_vec();
+        buffer.truncate(used.max(random.below(log.len() + 1)) + spare);
+        buffer.extend((0..spare).map(|_| random.byte()));
+        let used = match random.below(50) {
+            0 => buffer.len() + random.between(1, 9),
+            1 => usize::MAX - random.below(9),
+            _ => used.min(buffer.len()),
+        };
+        let (tag, payload) = some_field(random);
+        let _ = one(log, &mut buffer, used, tag, &payload, report);
+    }
+    if let Some(records) = records.filter(|_| random.percent(4)) {
+        whole(log, records, random, report);
+    }
+}
+
+/// Most often the end of a whole field, so that the new field is looked at.
+fn used_count(log: &[u8], random: &mut Random) -> usize {
+    if random.percent(20) {
+        return random.below(log.len() + 1);
+    }
+    let mut ends = vec![0];
+    let mut at = 0;
+    while at + 3 <= log.len() {
+        at += 3 + usize::from(u16::from_le_bytes([log[at + 1], log[at + 2]]));
+        ends.push(at.min(log.len()));
+    }
+    // Before the end field there is more to say than after it.
+    let last = ends.len() - 1;
+    if random.percent(50) {
+        ends[last.saturating_sub(1)]
+    } else {
+        *random.pick(&ends)
+    }
+}
+
+/// A field that is right, or nearly so.
+fn some_field(random: &mut Random) -> (u8, Vec<u8>) {
+    let tag = random.between(1, 4) as u8;
+    let small = |random: &mut Random, most: usize| random.below(most + 1) as u8;
+    let mut payload = match tag {
+        1 => vec![small(random, 7), small(random, 63)],
+        2 => vec![small(random, 7)],
+        3 => {
+            let operation = small(random, 8);
+            let value = if operation < 5 { random.byte() } else { random.below(20) as u8 / 19 };
+            let location = if operation == 7 { random.below(20) as u8 / 19 } else { small(random, 3) };
+            vec![operation, small(random, 7), location, value, small(random, 1) * (value & 1)]
+        }
+        _ => vec![],
+    };
+    match random.below(20) {
+        0 => payload.push(0),
+        1 => drop(payload.pop()),
+        2 => return (random.byte(), payload),
+        3 => payload = vec![0; *random.pick(&[65535, 65536, 65538, 65541])],
+        _ => {}
+    }
+    (tag, payload)
+}
+
+/// One field on both sides; gives the second side's answer.
+fn one(
+    log: &[u8],
+    buffer: &mut [u8],
+    used: usize,
+    tag: u8,
+    payload: &[u8],
+    report: &mut Report,
+) -> Result<usize, Refusal> {
+    let mut second = buffer.to_vec();
+    let expected = second::record(&mut second, used, tag, payload);
+    let before = payload.to_vec();
+    let answer = proved::record(buffer, used, tag, payload);
+    report.same("the payload itself was changed", log, payload, &before[..]);
+    if answer != expected::packed(expected, expected::record) || buffer != second {
+        let detail = format!(
+            "proved {answer:#x}, second {expected:?}, used {used} of {}, tag {tag}, payload {} (the first bytes)",
+            hex(buffer),
+            hex(&payload[..payload.len().min(8)])
+        );
+        report.differ("record", log, &detail);
+    }
+    report.call("record", expected.map_or_else(|refusal| format!("refused {}", refusal.0), |_| "recorded".into()));
+    expected
+}
+
+/// The whole log field by field: the buffer must then hold the bytes that the encoder writes, and nothing else changed.
+fn whole(log: &[u8], records: &Log, random: &mut Random, report: &mut Report) {
+    let bytes = encode(records);
+    let mut buffer: Vec<u8> = (0..bytes.len() + random.below(9)).map(|_| random.byte()).collect();
+    let rest = buffer[bytes.len()..].to_vec();
+    let mut used = 0;
+    for (tag, payload) in fields(records) {
+        match one(log, &mut buffer, used, tag, &payload, report) {
+            Ok(count) => used = count,
+            Err(refusal) => report.differ("a field of an accepted log is refused", log, &refusal.to_string()),
+        }
+    }
+    report.same("recorded bytes", log, &buffer[..], &[&bytes[..], &rest].concat());
+    report.same("recorded count", log, used, bytes.len());
+    report.call("record", "whole logs");
+}

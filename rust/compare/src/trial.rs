@@ -1,0 +1,153 @@
+//! One log through every call on both sides.
+
+use corpus::Random;
+use second::{read_schedule, replay, verdict_file, Log, Refusal, Replayed, Step, Verdict};
+use second::{FILE_MOST, SCRATCH_LEAST, STEPS_MOST};
+
+use crate::report::{hex, Report, Verdicts};
+use crate::{expected, proved, recording, replaying};
+
+/// Lent buffers, filled with noise, and what they were.
+struct Areas {
+    out: Vec<u8>,
+    offset: usize,
+    scratch: Vec<u64>,
+    out_before: Vec<u8>,
+    scratch_before: Vec<u64>,
+}
+
+impl Areas {
+    fn new(random: &mut Random, out: usize, offset: usize, scratch: usize) -> Areas {
+        let out: Vec<u8> = (0..out.div_ceil(8)).flat_map(|_| random.bits().to_le_bytes()).take(out).collect();
+        let scratch: Vec<u64> = (0..scratch).map(|_| random.bits()).collect();
+        Areas { out_before: out.clone(), scratch_before: scratch.clone(), out, offset, scratch }
+    }
+
+    /// Long enough, by nothing or a little.
+    fn enough(random: &mut Random) -> Areas {
+        let (offset, spare, more) = (random.below(40), random.below(20), random.below(9));
+        Areas::new(random, offset + FILE_MOST + spare, offset, SCRATCH_LEAST + more)
+    }
+
+    /// Too short in one of three ways, or in several.
+    fn short(random: &mut Random) -> Areas {
+        match random.below(4) {
+            0 => {
+                // The offset is past the output by one, or so far that adding to it goes round.
+                let offset = *random.pick(&[FILE_MOST + 1, usize::MAX / 2, usize::MAX - FILE_MOST + 1, usize::MAX]);
+                Areas::new(random, FILE_MOST, offset, SCRATCH_LEAST)
+            }
+            1 => {
+                let offset = random.below(FILE_MOST) + 1;
+                Areas::new(random, FILE_MOST + offset - 1, offset, SCRATCH_LEAST)
+            }
+            2 => Areas::new(random, FILE_MOST, 0, SCRATCH_LEAST - 1),
+            _ => Areas::new(random, 0, usize::MAX, 0),
+        }
+    }
+
+    fn unchanged(&self) -> bool {
+        self.out == self.out_before && self.scratch == self.scratch_before
+    }
+
+    /// Whether exactly this file was written and the scratch is all zero.
+    fn holds(&self, file: &[u8]) -> bool {
+        let end = self.offset + file.len();
+        self.out[..self.offset] == self.out_before[..self.offset]
+            && self.out[self.offset..end] == *file
+            && self.out[end..] == self.out_before[end..]
+            && self.scratch.iter().all(|&number| number == 0)
+    }
+}
+
+/// Puts one log through every call, unless too much differs already.
+pub fn compare(kind: &'static str, log: &[u8], random: &mut Random, report: &mut Report) {
+    if report.is_hopeless() {
+        return;
+    }
+    let before = log.to_vec();
+    let records = second::read(log);
+    report.logs += 1;
+    report.same("read", log, proved::read(log), expected::packed(records.as_ref().map_err(|r| *r), expected::read));
+    short_areas(log, random, report);
+    let steps = judged(kind, log, records.as_ref(), random, report);
+    replaying::compare(log, records.as_ref().ok(), &steps, random, report);
+    recording::compare(log, records.as_ref().ok(), random, report);
+    report.same("the log itself was changed", &before, log, &before[..]);
+}
+
+/// Buffers that are too short are refused before the log is looked at.
+fn short_areas(log: &[u8], random: &mut Random, report: &mut Report) {
+    if !random.percent(10) {
+        return;
+    }
+    let mut areas = Areas::short(random);
+    let answer = proved::judge(log, &mut areas.out, areas.offset, &mut areas.scratch);
+    report.same("judge with short buffers", log, answer, u64::from(Refusal::BUFFER_TOO_SHORT.0));
+    report.same("judge with short buffers left them unchanged", log, areas.unchanged(), true);
+    report.call("judge with short buffers", "refused 1");
+}
+
+/// The verdicts of both sides. Gives the schedule of the proved one.
+fn judged(
+    kind: &'static str,
+    log: &[u8],
+    records: Result<&Log, &Refusal>,
+    random: &mut Random,
+    report: &mut Report,
+) -> Vec<Step> {
+    let mut areas = Areas::enough(random);
+    let answer = proved::judge(log, &mut areas.out, areas.offset, &mut areas.scratch);
+    let verdicts = report.kinds.entry(kind).or_insert_with(Verdicts::default);
+    let records = match records {
+        Ok(records) => records,
+        Err(refusal) => {
+            *verdicts.refused.entry(refusal.0).or_default() += 1;
+            report.same("judge of a refused log", log, answer, u64::from(refusal.0));
+            report.same("judge left the buffers of a refused log unchanged", log, areas.unchanged(), true);
+            return Vec::new();
+        }
+    };
+    let verdict = second::judge(records);
+    match &verdict {
+        Verdict::Impossible(event) => {
+            verdicts.impossible += 1;
+            let file = verdict_file::write(&verdict);
+            report.same("verdict", log, answer, expected::impossible(*event, file.len()));
+            report.same("buffers after an impossible log", log, areas.holds(&file), true);
+            Vec::new()
+        }
+        Verdict::Allowed(own) => {
+            verdicts.allowed += 1;
+            let steps = allowed(log, records, answer, &areas, report);
+            let own = verdict_file::write(&Verdict::Allowed(own.clone()));
+            report.same("replay of the second judge's schedule", log, proved::replay(log, &own), 1 << 8);
+            steps
+        }
+    }
+}
+
+/// The proved side's schedule of an allowed log, held to all that the specification says of it.
+fn allowed(log: &[u8], records: &Log, answer: u64, areas: &Areas, report: &mut Report) -> Vec<Step> {
+    let length = ((answer >> 40) as usize & 0xffff).min(areas.out.len() - areas.offset);
+    let file = &areas.out[areas.offset..areas.offset + length];
+    let steps = match read_schedule(records, file) {
+        Ok(steps) => steps,
+        Err(_) => {
+            report.differ("no schedule of an allowed log", log, &format!("answer {answer:#x}, file {}", hex(file)));
+            return Vec::new();
+        }
+    };
+    report.same("verdict", log, answer, expected::allowed(steps.len(), length));
+    let written = verdict_file::write(&Verdict::Allowed(steps.clone()));
+    report.same("buffers after an allowed log", log, areas.holds(&written), true);
+    if steps.len() > records.steps_most().min(STEPS_MOST) {
+        report.differ("more silent steps than the bound", log, &format!("{} steps", steps.len()));
+    }
+    report.same("second replay of the schedule", log, replay(records, &steps), Replayed::Yes);
+    report.same("proved replay of the schedule", log, proved::replay(log, file), 1 << 8);
+    report.schedules += 1;
+    report.steps += steps.len();
+    report.steps_most = report.steps_most.max(steps.len());
+    steps
+}

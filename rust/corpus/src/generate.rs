@@ -1,0 +1,225 @@
+//! Random logs and schedules.
+
+use second::log::{EVENTS_MOST, LOCATIONS_MOST};
+use second::{Event, Log, Operation, Step, System};
+
+use crate::Random;
+
+/// How a random log looks.
+#[derive(Clone, Copy, Debug)]
+pub struct Shape {
+    /// Machines, 1 to 6.
+    pub machines: usize,
+    /// Locations, at most 32.
+    pub locations: usize,
+    /// Events, at most 128.
+    pub events: usize,
+    /// So many of a hundred events are crashes.
+    pub crashes: usize,
+    /// Values are below this.
+    pub values: usize,
+    /// What happens beside crashes, each as often as it stands here.
+    pub operations: &'static [Operation],
+}
+
+/// All operations, loads most often.
+pub const MIXED: &[Operation] = &[
+    Operation::LStore,
+    Operation::RStore,
+    Operation::MStore,
+    Operation::Load,
+    Operation::Load,
+    Operation::Load,
+    Operation::LFlush,
+    Operation::RFlush,
+];
+
+/// Operations that leave values in caches, where silent steps decide what becomes of them.
+pub const CACHED: &[Operation] =
+    &[Operation::LStore, Operation::LStore, Operation::RStore, Operation::Load, Operation::Load, Operation::LFlush];
+
+impl Shape {
+    /// Some shape within the limits, small ones and large ones.
+    pub fn random(random: &mut Random) -> Shape {
+        let (locations, events) = match random.below(4) {
+            0 => (random.below(4), random.below(9)),
+            1 => (random.between(1, 3), random.below(25)),
+            2 => (1, random.below(EVENTS_MOST + 1)),
+            _ => (random.below(LOCATIONS_MOST + 1), random.below(EVENTS_MOST + 1)),
+        };
+        Shape {
+            machines: random.between(1, 6),
+            locations,
+            events,
+            crashes: *random.pick(&[0, 5, 15, 30, 70]),
+            values: *random.pick(&[2, 3, 5, 65536]),
+            operations: if random.percent(70) { MIXED } else { CACHED },
+        }
+    }
+
+    /// The head of a log of this shape.
+    fn head(&self, random: &mut Random) -> Log {
+        let all = (1 << self.machines) - 1;
+        let some = random.byte() & all;
+        Log {
+            machines: self.machines as u8,
+            persistent: *random.pick(&[all, 0, some]),
+            owners: (0..self.locations).map(|_| random.between(1, self.machines) as u8).collect(),
+            events: Vec::with_capacity(self.events),
+        }
+    }
+
+    /// An event that names only what the log has. The owner's events count most, so it is the machine more often than
+    /// another.
+    fn event(&self, random: &mut Random, owners: &[u8]) -> Event {
+        let location = random.below(self.locations) as u8;
+        let machine = match owners.get(usize::from(location)) {
+            Some(&owner) if random.percent(25) => owner,
+            _ => random.between(1, self.machines) as u8,
+        };
+        if owners.is_empty() || random.percent(self.crashes) {
+            return Event { operation: Operation::Crash, machine, location: 0, value: 0 };
+        }
+        let operation = *random.pick(self.operations);
+        let value = random.below(self.values) as u16;
+        Event { operation, machine, location, value: if operation.uses_value() { value } else { 0 } }
+    }
+}
+
+/// A log by simulating the system: random silent steps between the events, and each load returns what it finds. It is
+/// allowed.
+pub fn plausible(random: &mut Random, shape: &Shape) -> Log {
+    let mut log = shape.head(random);
+    let mut system = System::start(&log);
+    let restless = *random.pick(&[0, 20, 60]);
+    while log.events.len() < shape.events {
+        while shape.locations > 0 && random.percent(restless) {
+            let location = random.below(shape.locations) as u8;
+            let machine = random.below(shape.machines + 1) as u8;
+            system.step(&log, location, machine);
+        }
+        let mut event = shape.event(random, &log.owners);
+        match event.operation {
+            Operation::Load => event.value = system.visible(event.location),
+            Operation::LFlush | Operation::RFlush => settle(&mut system, &log, &event),
+            _ => {}
+        }
+        let possible = system.apply(&log, &event);
+        debug_assert!(possible && system.copies_agree());
+        log.events.push(event);
+    }
+    log
+}
+
+/// Makes the silent steps that a flush waits for.
+fn settle(system: &mut System, log: &Log, flush: &Event) {
+    let x = flush.location;
+    let machines = 1..=log.machines;
+    if flush.operation == Operation::LFlush {
+        if system.holds(flush.machine, x) && !system.step(log, x, flush.machine) {
+            system.step(log, x, 0);
+        }
+    } else if let Some(holder) = machines.into_iter().find(|&machine| system.holds(machine, x)) {
+        system.step(log, x, holder);
+        system.step(log, x, 0);
+    }
+}
+
+/// The same log with another value in one of its loads, if it has one.
+pub fn change_one_load(random: &mut Random, log: &Log, values: usize) -> Log {
+    let mut changed = log.clone();
+    let loads: Vec<usize> = (0..log.events.len()).filter(|&e| log.events[e].operation == Operation::Load).collect();
+    if !loads.is_empty() {
+        let event = &mut changed.events[*random.pick(&loads)];
+        let other = random.below(values) as u16;
+        event.value = if other == event.value { other ^ 1 } else { other };
+    }
+    changed
+}
+
+/// A log like a litmus test: a short run with values in caches and crashes, and then a load of a value that was stored
+/// or of 0. Whether that load can be explained hangs on the silent steps before it.
+pub fn litmus(random: &mut Random) -> Log {
+    let shape = Shape {
+        machines: random.between(2, 4),
+        locations: random.between(1, 2),
+        events: random.between(2, 10),
+        crashes: 25,
+        values: 3,
+        operations: if random.percent(20) { MIXED } else { CACHED },
+    };
+    let mut log = plausible(random, &shape);
+    let location = random.below(shape.locations) as u8;
+    let stored = log.events.iter().filter(|event| event.operation.is_store() && event.location == location);
+    let mut values: Vec<u16> = stored.map(|event| event.value).collect();
+    values.push(0);
+    let machine = random.between(1, shape.machines) as u8;
+    log.events.push(Event { operation: Operation::Load, machine, location, value: *random.pick(&values) });
+    log
+}
+
+/// A log whose events are all random; most such logs have an impossible load.
+pub fn random_log(random: &mut Random, shape: &Shape) -> Log {
+    let mut log = shape.head(random);
+    log.events = (0..shape.events).map(|_| shape.event(random, &log.owners)).collect();
+    log
+}
+
+/// The same bytes with a few of them changed, taken away, doubled, or put in.
+pub fn damage(random: &mut Random, bytes: &[u8]) -> Vec<u8> {
+    let mut bytes = bytes.to_vec();
+    for _ in 0..random.between(1, 3) {
+        let at = random.below(bytes.len() + 1);
+        // A small number is likelier to be something that the format knows.
+        let byte = if random.percent(50) { random.below(9) as u8 } else { random.byte() };
+        match random.below(5) {
+            0 | 1 if at < bytes.len() => bytes[at] = byte,
+            2 if at < bytes.len() => {
+                bytes.remove(at);
+            }
+            3 => bytes.insert(at, byte),
+            4 => bytes.truncate(at),
+            _ => {
+                let again = bytes[at..bytes.len().min(at + 8)].to_vec();
+                bytes.splice(at..at, again);
+            }
+        }
+    }
+    bytes
+}
+
+/// A schedule near the given one: most of it stands, a few steps are changed, dropped, doubled or put in. Its counts of
+/// events before may be out of order or out of bounds if `wild`.
+pub fn random_schedule(random: &mut Random, log: &Log, steps: &[Step], wild: bool) -> Vec<Step> {
+    let mut steps = steps.to_vec();
+    for _ in 0..random.below(4) {
+        let step = random_step(random, log, wild);
+        let at = random.below(steps.len() + 1);
+        match random.below(3) {
+            0 if at < steps.len() => steps[at] = step,
+            1 if at < steps.len() => {
+                steps.remove(at);
+            }
+            _ => steps.insert(at, step),
+        }
+    }
+    if !wild {
+        steps.retain(|step| fits(log, step));
+        steps.sort_by_key(|step| step.before);
+    }
+    steps
+}
+
+fn random_step(random: &mut Random, log: &Log, wild: bool) -> Step {
+    let slack = usize::from(wild);
+    Step {
+        before: random.below(log.events.len() + 1 + slack) as u8,
+        location: random.below(log.owners.len() + 1) as u8,
+        machine: random.below(usize::from(log.machines) + 1 + slack) as u8,
+    }
+}
+
+fn fits(log: &Log, step: &Step) -> bool {
+    let owner = log.owners.get(usize::from(step.location));
+    owner.is_some_and(|&owner| step.machine != owner && step.machine <= log.machines)
+}

@@ -1,0 +1,11 @@
+//! CXL0 logs from fixed seeds, for tests, comparison and benchmark.
+
+pub mod encode;
+pub mod generate;
+pub mod marked;
+mod random;
+
+pub use encode::encode;
+pub use generate::{change_one_load, damage, litmus, plausible, random_log, random_schedule};
+pub use generate::{Shape, CACHED, MIXED};
+pub use random::Random;

@@ -1,0 +1,129 @@
+//! Text to log bytes. docs/TEXT-FORM.md describes the text.
+
+use std::ffi::OsString;
+use std::path::Path;
+
+use malluvom::{Recorder, Schedule, Step};
+
+use crate::failure::Failure;
+use crate::files;
+use crate::options::Options;
+use crate::text::{parse, Line};
+
+pub fn command(words: &[OsString]) -> Result<u8, Failure> {
+    let options = Options::parse(words, &[], &["-o", "--schedule"])?;
+    let path = options.one_file("the text")?;
+    let text = files::read_text(path)?;
+    let assembled = assemble(&text, path)?;
+    if let Some(schedule) = options.value("--schedule") {
+        files::write(Some(schedule), &assembled.schedule.to_file())?;
+    }
+    files::write(options.value("-o"), &assembled.log)?;
+    Ok(0)
+}
+
+/// What a text says.
+pub struct Assembled {
+    pub log: Vec<u8>,
+    pub schedule: Schedule,
+}
+
+/// Where the fields go: through the proved recorder, or as they are.
+enum Sink {
+    Checked(Box<Recorder>),
+    Unchecked(Vec<u8>),
+}
+
+impl Sink {
+    fn field(&mut self, tag: u8, payload: &[u8]) -> Result<(), String> {
+        match self {
+            Sink::Checked(recorder) => recorder.field(tag, payload).map_err(|refusal| refusal.to_string()),
+            Sink::Unchecked(bytes) => {
+                bytes.extend([tag, payload.len() as u8, 0]);
+                bytes.extend(payload);
+                Ok(())
+            }
+        }
+    }
+}
+
+/// Assembles a text; a failure names the file and the line.
+pub fn assemble(text: &str, path: &Path) -> Result<Assembled, Failure> {
+    let mut assembly = Assembly {
+        sink: Sink::Checked(Box::new(Recorder::empty())),
+        fields: 0,
+        locations: 0,
+        events: 0,
+        schedule: Schedule::default(),
+    };
+    let mut lines = 1;
+    for (number, line) in text.lines().enumerate() {
+        lines = number + 1;
+        let placed = |message: String| Failure::new(format!("{}:{}: {message}", path.display(), number + 1));
+        if let Some(line) = parse(line).map_err(placed)? {
+            assembly.take(line).map_err(placed)?;
+        }
+    }
+    assembly.finish().map_err(|message| Failure::new(format!("{}:{lines}: {message}", path.display())))
+}
+
+struct Assembly {
+    sink: Sink,
+    fields: usize,
+    locations: usize,
+    events: usize,
+    schedule: Schedule,
+}
+
+impl Assembly {
+    fn take(&mut self, line: Line) -> Result<(), String> {
+        match line {
+            Line::Unchecked if self.fields == 0 => {
+                self.sink = Sink::Unchecked(Vec::new());
+                Ok(())
+            }
+            Line::Unchecked => Err("'unchecked' must come before all fields".into()),
+            Line::Machines { count, persistent } => self.field(0x01, &[count, persistent]),
+            Line::Location { number, owner } => {
+                if usize::from(number) != self.locations {
+                    return Err(format!("the next location is L{}", self.locations));
+                }
+                self.locations += 1;
+                self.field(0x02, &[owner])
+            }
+            Line::Event(event) => {
+                self.events += 1;
+                self.field(0x03, &event.payload())
+            }
+            Line::Silent { location, machine } => {
+                let before = u8::try_from(self.events).map_err(|_| "over 255 events before a silent step")?;
+                self.schedule.steps.push(Step { before, location, machine });
+                Ok(())
+            }
+            Line::Bytes(given) => match &mut self.sink {
+                Sink::Unchecked(bytes) => {
+                    bytes.extend(given);
+                    Ok(())
+                }
+                Sink::Checked(_) => Err("'bytes' stands only in a text that begins with 'unchecked'".into()),
+            },
+            Line::End => self.field(0x04, &[]),
+        }
+    }
+
+    fn field(&mut self, tag: u8, payload: &[u8]) -> Result<(), String> {
+        self.fields += 1;
+        self.sink.field(tag, payload)
+    }
+
+    /// The end field is written unless the text has it, or is unchecked.
+    fn finish(self) -> Result<Assembled, String> {
+        let log = match self.sink {
+            Sink::Unchecked(bytes) => bytes,
+            Sink::Checked(_) if self.fields == 0 => return Err("no 'machines' line".into()),
+            Sink::Checked(recorder) if malluvom::read(recorder.bytes()).is_ok() => recorder.bytes().to_vec(),
+            Sink::Checked(recorder) => recorder.finish().map_err(|refusal| refusal.to_string())?,
+        };
+        Ok(Assembled { log, schedule: self.schedule })
+    }
+}

@@ -1,0 +1,235 @@
+//! A picture of one location's run: a lane for each machine's cache and one for the memory, events and silent steps
+//! from left to right, and a bar wherever a value is held.
+
+use std::ffi::OsString;
+use std::fmt::Write;
+
+use malluvom::{Event, Judge, Log, Operation, Schedule, Verdict};
+
+use crate::failure::Failure;
+use crate::files;
+use crate::options::Options;
+use crate::run::{actions, Action, Held};
+
+const LEFT: usize = 150;
+const TOP: usize = 64;
+const COLUMN: usize = 84;
+const LANE: usize = 46;
+
+const STYLE: &str = "\
+text{font:13px sans-serif;fill:#222}.title{font-weight:bold}.small{font-size:11px;text-anchor:middle}\
+.value{font-size:11px;fill:#fff}.lane{stroke:#ccc}.cache{fill:#3973ac}.memory{fill:#4d8a4d}\
+.event{fill:#fff;stroke:#222}.silent{stroke:#888;stroke-width:2;stroke-dasharray:4 3;fill:none}\
+.crash,.bad{stroke:#c22;stroke-width:3;fill:none}.badtext{fill:#c22}";
+
+pub fn command(words: &[OsString]) -> Result<u8, Failure> {
+    let options = Options::parse(words, &[], &["-o", "--location"])?;
+    let path = options.one_file("the log")?;
+    let (log, bytes) = files::read_log(path)?;
+    let (log, schedule, bad) = explained(log, &bytes)?;
+    let location = match options.value("--location") {
+        Some(word) => named(&log, &word.to_string_lossy())?,
+        None => chosen(&log, bad)?,
+    };
+    let svg = Picture::new(&log, location, bad.filter(|event| event.concerns(location))).draw(&schedule);
+    files::write(options.value("-o"), svg.as_bytes())?;
+    Ok(0)
+}
+
+/// The log up to its first impossible event, which comes apart, with the silent steps of a run.
+fn explained(mut log: Log, bytes: &[u8]) -> Result<(Log, Schedule, Option<Event>), Failure> {
+    let mut judge = Judge::new();
+    let event = match judge.judge(bytes).map_err(Failure::new)? {
+        Verdict::Allowed(schedule) => return Ok((log, schedule, None)),
+        Verdict::Impossible { event } => usize::from(event),
+    };
+    let bad = log.events[event - 1];
+    log.events.truncate(event - 1);
+    let before = log.with_events(&log.events).map_err(Failure::new)?;
+    match judge.judge(&before).map_err(Failure::new)? {
+        Verdict::Allowed(schedule) => Ok((log, schedule, Some(bad))),
+        Verdict::Impossible { event } => Err(Failure::new(format!("event {event} was not the first impossible one"))),
+    }
+}
+
+fn named(log: &Log, word: &str) -> Result<u8, Failure> {
+    let number = word.strip_prefix(['L', 'l']).unwrap_or(word).parse();
+    match number {
+        Ok(number) if usize::from(number) < log.owners.len() => Ok(number),
+        _ => Err(Failure::new(format!("the log has no location {word}"))),
+    }
+}
+
+/// The location of the impossible event, or the one with the most events.
+fn chosen(log: &Log, bad: Option<Event>) -> Result<u8, Failure> {
+    if let Some(event) = bad {
+        return Ok(event.location);
+    }
+    let events = |x: u8| {
+        let own = log.events.iter().filter(|event| event.operation != Operation::Crash && event.location == x);
+        own.count()
+    };
+    let locations = 0..log.owners.len() as u8;
+    let most = locations.rev().max_by_key(|&x| events(x));
+    most.ok_or_else(|| Failure::new("the log has no location to draw"))
+}
+
+struct Picture<'a> {
+    log: &'a Log,
+    location: u8,
+    bad: Option<Event>,
+    svg: String,
+}
+
+impl<'a> Picture<'a> {
+    fn new(log: &'a Log, location: u8, bad: Option<Event>) -> Picture<'a> {
+        Picture { log, location, bad, svg: String::new() }
+    }
+
+    fn draw(mut self, schedule: &Schedule) -> String {
+        let mut shown = actions(self.log, schedule);
+        shown.retain(|action| action.concerns(self.location));
+        let columns = shown.len() + usize::from(self.bad.is_some());
+        self.frame(columns);
+        let mut states = vec![Held::default()];
+        for action in &shown {
+            let last = states[states.len() - 1];
+            states.push(last.after(self.log, self.location, action));
+        }
+        for machine in 1..=self.log.machines {
+            let values = states.iter().map(|held| held.by(machine).then_some(held.copy));
+            self.bars(self.lane(machine), "cache", &values.collect::<Vec<_>>(), columns);
+        }
+        let memory: Vec<_> = states.iter().map(|held| Some(held.memory)).collect();
+        self.bars(self.memory(), "memory", &memory, columns);
+        for (column, action) in shown.iter().enumerate() {
+            self.action(column, action);
+        }
+        if let Some(event) = self.bad {
+            self.event(columns - 1, None, &event);
+        }
+        self.svg.push_str("</svg>\n");
+        self.svg
+    }
+
+    /// The height of a machine's lane.
+    fn lane(&self, machine: u8) -> usize {
+        TOP + LANE * usize::from(machine - 1) + LANE / 2
+    }
+
+    fn memory(&self) -> usize {
+        self.lane(self.log.machines + 1)
+    }
+
+    fn frame(&mut self, columns: usize) {
+        let width = LEFT + COLUMN * columns.max(3) + 40;
+        let height = self.memory() + LANE;
+        let x = self.location;
+        let owner = self.log.owner(x);
+        let kind = if self.log.is_persistent(owner) { "persistent" } else { "volatile" };
+        let verdict = match self.bad {
+            Some(_) => ": impossible",
+            None => "",
+        };
+        let _ = writeln!(
+            self.svg,
+            "<svg xmlns=\"http://www.w3.org/2000/svg\" width=\"{width}\" height=\"{height}\" \
+             viewBox=\"0 0 {width} {height}\">\n<style>{STYLE}</style>\n\
+             <rect width=\"{width}\" height=\"{height}\" fill=\"#fff\"/>\n\
+             <text class=\"title\" x=\"12\" y=\"22\">L{x}, in the {kind} memory of {owner}{verdict}</text>"
+        );
+        for machine in 1..=self.log.machines {
+            let role = if machine == owner { " (owner)" } else { "" };
+            self.lane_line(self.lane(machine), width, &format!("cache of {machine}{role}"));
+        }
+        self.lane_line(self.memory(), width, &format!("memory of {owner}"));
+    }
+
+    fn lane_line(&mut self, y: usize, width: usize, label: &str) {
+        let end = width - 20;
+        let _ = writeln!(
+            self.svg,
+            "<text x=\"12\" y=\"{}\">{label}</text>\
+             <line class=\"lane\" x1=\"{LEFT}\" y1=\"{y}\" x2=\"{end}\" y2=\"{y}\"/>",
+            y + 5
+        );
+    }
+
+    /// The middle of a column; column c stands between the states c and c + 1.
+    fn middle(column: usize) -> usize {
+        LEFT + COLUMN * column + COLUMN / 2
+    }
+
+    /// A bar over each stretch of states in which the lane holds one value.
+    fn bars(&mut self, y: usize, class: &str, values: &[Option<u16>], columns: usize) {
+        let end = LEFT + COLUMN * columns.max(1) + 10;
+        let mut from = 0;
+        for state in 1..=values.len() {
+            if state < values.len() && values[state] == values[from] {
+                continue;
+            }
+            if let Some(value) = values[from] {
+                let left = if from == 0 { LEFT } else { Self::middle(from - 1) };
+                let right = if state == values.len() { end } else { Self::middle(state - 1) };
+                let _ = writeln!(
+                    self.svg,
+                    "<rect class=\"{class}\" x=\"{left}\" y=\"{}\" width=\"{}\" height=\"16\" rx=\"4\"/>\
+                     <text class=\"value\" x=\"{}\" y=\"{}\">{value}</text>",
+                    y - 8,
+                    right - left,
+                    right - 8 - 7 * value.to_string().len(),
+                    y + 4
+                );
+            }
+            from = state;
+        }
+    }
+
+    fn action(&mut self, column: usize, action: &Action) {
+        match action {
+            Action::Event(number, event) => self.event(column, Some(*number), event),
+            Action::Silent(step) => {
+                let owner = self.lane(self.log.owner(self.location));
+                let (from, to, word) = match step.machine {
+                    0 => (owner, self.memory(), "write-back"),
+                    machine => (self.lane(machine), owner, "propagate"),
+                };
+                let x = Self::middle(column);
+                let tip = if to > from { to - 14 } else { to + 14 };
+                let back = if to > from { tip - 7 } else { tip + 7 };
+                let _ = writeln!(
+                    self.svg,
+                    "<text class=\"small\" x=\"{x}\" y=\"{}\">{word}</text>\
+                     <path class=\"silent\" d=\"M{x} {from}V{tip}M{} {back}L{x} {tip}L{} {back}\"/>",
+                    TOP - 8,
+                    x - 5,
+                    x + 5
+                );
+            }
+        }
+    }
+
+    /// An event; without a number it is the impossible one.
+    fn event(&mut self, column: usize, number: Option<usize>, event: &Event) {
+        let (x, y) = (Self::middle(column), self.lane(event.machine));
+        let label = match event.operation {
+            Operation::Crash => "Crash".to_string(),
+            Operation::LFlush | Operation::RFlush => format!("{:?}", event.operation),
+            operation => format!("{operation:?} {}", event.value),
+        };
+        let (label, class) = match number {
+            Some(number) => (format!("{number}: {label}"), "small"),
+            None => (format!("{label}?"), "small badtext"),
+        };
+        let _ = writeln!(self.svg, "<text class=\"{class}\" x=\"{x}\" y=\"{}\">{label}</text>", TOP - 8);
+        let shape = match (event.operation, number) {
+            (Operation::Crash, _) | (_, None) => {
+                let class = if number.is_some() { "crash" } else { "bad" };
+                format!("<path class=\"{class}\" d=\"M{} {}l16 16m0 -16l-16 16\"/>", x - 8, y - 8)
+            }
+            _ => format!("<circle class=\"event\" cx=\"{x}\" cy=\"{y}\" r=\"7\"/>"),
+        };
+        self.svg.push_str(&shape);
+        self.svg.push('\n');
+    }
+}

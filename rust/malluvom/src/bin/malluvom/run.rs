@@ -1,0 +1,90 @@
+//! A run for showing: the events of a log with the silent steps of a schedule that replay said yes to, and what one
+//! location holds after each. It judges nothing.
+
+use malluvom::{Event, Log, Operation, Schedule, Step};
+
+/// Something that happens.
+#[derive(Clone, Copy)]
+pub enum Action {
+    /// An event and its number, counted from 1.
+    Event(usize, Event),
+    Silent(Step),
+}
+
+impl Action {
+    /// Whether it can change what a location holds.
+    pub fn concerns(&self, location: u8) -> bool {
+        match self {
+            Action::Event(_, event) => event.concerns(location),
+            Action::Silent(step) => step.location == location,
+        }
+    }
+}
+
+/// All that happens, in order.
+pub fn actions(log: &Log, schedule: &Schedule) -> Vec<Action> {
+    let mut actions = Vec::new();
+    let mut steps = schedule.steps.iter().peekable();
+    for passed in 0..=log.events.len() {
+        while let Some(&step) = steps.next_if(|step| usize::from(step.before) == passed) {
+            actions.push(Action::Silent(step));
+        }
+        if let Some(&event) = log.events.get(passed) {
+            actions.push(Action::Event(passed + 1, event));
+        }
+    }
+    actions
+}
+
+/// What one location holds in a run. Copies agree, so one value is enough.
+#[derive(Clone, Copy, Default, PartialEq, Eq)]
+pub struct Held {
+    /// Bit i - 1 is set if machine i's cache holds a copy.
+    pub sharers: u8,
+    pub copy: u16,
+    pub memory: u16,
+}
+
+impl Held {
+    pub fn by(&self, machine: u8) -> bool {
+        self.sharers >> (machine - 1) & 1 == 1
+    }
+
+    /// What the location, with this number, holds after something that happens.
+    pub fn after(self, log: &Log, location: u8, action: &Action) -> Held {
+        let owner = log.owner(location);
+        let bit = |machine: u8| 1u8 << (machine - 1);
+        let Held { sharers, copy, memory } = self;
+        match *action {
+            action if !action.concerns(location) => self,
+            Action::Silent(Step { machine: 0, .. }) => Held { sharers: 0, copy, memory: copy },
+            Action::Silent(Step { machine, .. }) => {
+                Held { sharers: sharers & !bit(machine) | bit(owner), copy, memory }
+            }
+            Action::Event(_, Event { operation, machine, value, .. }) => match operation {
+                Operation::LStore => Held { sharers: bit(machine), copy: value, memory },
+                Operation::RStore => Held { sharers: bit(owner), copy: value, memory },
+                Operation::MStore => Held { sharers: 0, copy, memory: value },
+                Operation::Load if sharers == 0 => self,
+                Operation::Load => Held { sharers: sharers | bit(machine), copy, memory },
+                Operation::LFlush | Operation::RFlush => self,
+                Operation::Crash => {
+                    let forgotten = machine == owner && !log.is_persistent(machine);
+                    let memory = if forgotten { 0 } else { memory };
+                    Held { sharers: sharers & !bit(machine), copy, memory }
+                }
+            },
+        }
+    }
+
+    /// In words.
+    pub fn words(&self) -> String {
+        let machines: Vec<String> =
+            (1..=8).filter(|&machine| self.by(machine)).map(|machine| machine.to_string()).collect();
+        match machines.len() {
+            0 => format!("no cache holds it, memory {}", self.memory),
+            1 => format!("cache of {} holds {}, memory {}", machines[0], self.copy, self.memory),
+            _ => format!("caches of {} hold {}, memory {}", machines.join(" and "), self.copy, self.memory),
+        }
+    }
+}

@@ -1,0 +1,122 @@
+//! The lines of the text form, which docs/TEXT-FORM.md describes.
+
+use malluvom::{Event, Operation};
+
+/// One line of a text.
+pub enum Line {
+    Unchecked,
+    Machines { count: u8, persistent: u8 },
+    Location { number: u8, owner: u8 },
+    Event(Event),
+    Silent { location: u8, machine: u8 },
+    Bytes(Vec<u8>),
+    End,
+}
+
+/// One line, or nothing if it is empty or only a comment.
+pub fn parse(line: &str) -> Result<Option<Line>, String> {
+    let line = line.split('#').next().unwrap_or("");
+    // Words that only help reading.
+    let noise = ["by", "to", "of", "from", "~"];
+    let words: Vec<&str> = line
+        .split(|c: char| c.is_whitespace() || c == ',')
+        .filter(|word| !word.is_empty() && !noise.contains(word))
+        .collect();
+    let Some((&first, rest)) = words.split_first() else {
+        return Ok(None);
+    };
+    let known = match first.to_ascii_lowercase().as_str() {
+        "unchecked" => none(rest, Line::Unchecked)?,
+        "machines" => machines(rest)?,
+        "propagate" => match rest {
+            [machine, location] => Line::Silent { machine: number(machine)?, location: location_number(location)? },
+            _ => return Err("a propagation is 'propagate by 1 of L0'".into()),
+        },
+        "write-back" => match rest {
+            [location] => Line::Silent { machine: 0, location: location_number(location)? },
+            _ => return Err("a write-back is 'write-back of L0'".into()),
+        },
+        "bytes" => Line::Bytes(rest.iter().map(|word| hex(word)).collect::<Result<_, _>>()?),
+        "end" => none(rest, Line::End)?,
+        name => match Operation::ALL.iter().find(|operation| format!("{operation:?}").eq_ignore_ascii_case(name)) {
+            Some(&operation) => Line::Event(event(operation, rest)?),
+            None => match (location_number(first), rest) {
+                (Ok(number_of), [owner]) => Line::Location { number: number_of, owner: number(owner)? },
+                (Ok(_), _) => return Err(format!("a location is '{first} of' and its owner")),
+                (Err(_), _) => return Err(format!("'{first}' begins no line of the text form")),
+            },
+        },
+    };
+    Ok(Some(known))
+}
+
+fn none(rest: &[&str], line: Line) -> Result<Line, String> {
+    match rest.first() {
+        None => Ok(line),
+        Some(word) => Err(format!("'{word}' is too much")),
+    }
+}
+
+fn machines(rest: &[&str]) -> Result<Line, String> {
+    let [count, kind, which @ ..] = rest else {
+        return Err("the machines are 'machines 3 persistent all', 'none' or their numbers".into());
+    };
+    if *kind != "persistent" {
+        return Err(format!("'persistent' is expected, not '{kind}'"));
+    }
+    let count: u8 = number(count)?;
+    let persistent = match which {
+        ["all"] if count <= 8 => ((1u16 << count) - 1) as u8,
+        ["none"] => 0,
+        [] => return Err("which machines are persistent? 'all', 'none' or their numbers".into()),
+        which => which.iter().try_fold(0, |set: u8, word| match number::<u8>(word)? {
+            machine @ 1..=8 => Ok(set | 1 << (machine - 1)),
+            machine => Err(format!("machine {machine} cannot be called persistent")),
+        })?,
+    };
+    Ok(Line::Machines { count, persistent })
+}
+
+fn event(operation: Operation, rest: &[&str]) -> Result<Event, String> {
+    let mut event = Event { operation, machine: 0, location: 0, value: 0 };
+    match (operation, rest) {
+        (Operation::Crash, [machine]) => event.machine = number(machine)?,
+        (Operation::LFlush | Operation::RFlush, [machine, location]) => {
+            (event.machine, event.location) = (number(machine)?, location_number(location)?);
+        }
+        (Operation::LStore | Operation::RStore | Operation::MStore | Operation::Load, [machine, location, value]) => {
+            (event.machine, event.location) = (number(machine)?, location_number(location)?);
+            event.value = number(value)?;
+        }
+        _ => {
+            let example = Event { operation, machine: 1, location: 0, value: 1 };
+            return Err(format!("this line should look like '{example}'"));
+        }
+    }
+    Ok(event)
+}
+
+/// A number, base ten or with 0x in front.
+fn number<T: TryFrom<u32>>(word: &str) -> Result<T, String> {
+    let parsed = match word.strip_prefix("0x") {
+        Some(digits) if digits.bytes().all(|b| b.is_ascii_hexdigit()) => u32::from_str_radix(digits, 16).ok(),
+        None if word.bytes().all(|b| b.is_ascii_digit()) => word.parse().ok(),
+        _ => None,
+    };
+    let fits = parsed.and_then(|parsed| T::try_from(parsed).ok());
+    fits.ok_or_else(|| format!("'{word}' is no number that fits here"))
+}
+
+fn location_number(word: &str) -> Result<u8, String> {
+    let digits = word.strip_prefix(['L', 'l']).ok_or_else(|| format!("'{word}' is no location such as L0"))?;
+    number(digits)
+}
+
+fn hex(word: &str) -> Result<u8, String> {
+    match word.len() {
+        2 if word.bytes().all(|b| b.is_ascii_hexdigit()) => {
+            u8::from_str_radix(word, 16).map_err(|error| error.to_string())
+        }
+        _ => Err(format!("'{word}' is no byte of two hexadecimal digits")),
+    }
+}

@@ -1,0 +1,36 @@
+//! A proved judge of CXL0 logs.
+//!
+//! A log is a row of loads, stores, flushes and crashes of a Compute Express Link shared-memory system. The judge says
+//! whether some choice of silent steps, copies that move between caches and to memory, explains it. The four calls are
+//! those of the proved library with typed answers; [`Judge`] keeps the buffers that judging needs.
+//!
+//! ```
+//! use malluvom::{Judge, Recorder, Verdict};
+//!
+//! let mut recorder = Recorder::new(2, 0b11)?;   // two machines with persistent memory
+//! recorder.location(2)?;                        // L0, in the memory of machine 2
+//! recorder.event(1, 1, 0, 1)?;                  // LStore by 1 to L0 of 1
+//! recorder.event(5, 1, 0, 0)?;                  // LFlush by 1 of L0
+//! recorder.event(7, 2, 0, 0)?;                  // Crash of 2
+//! recorder.event(4, 1, 0, 0)?;                  // Load by 1 of L0, 0
+//! let log = recorder.finish()?;
+//! match Judge::new().judge(&log)? {
+//!     Verdict::Allowed(schedule) => assert_eq!(schedule.to_string(), "1 0 1\n"),
+//!     Verdict::Impossible { event } => panic!("no run explains event {event}"),
+//! }
+//! # Ok::<(), malluvom::Refusal>(())
+//! ```
+
+mod calls;
+mod judging;
+pub mod log;
+mod recorder;
+mod refusal;
+pub mod schedule;
+
+pub use calls::{judge_into, read, record, replay, Counts, Judged, Replayed, FILE_MOST, SCRATCH_LEAST};
+pub use judging::{Judge, Verdict};
+pub use log::{Event, Log, Operation};
+pub use recorder::Recorder;
+pub use refusal::Refusal;
+pub use schedule::{Schedule, Step};

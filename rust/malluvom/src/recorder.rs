@@ -1,0 +1,52 @@
+use crate::{record, Refusal};
+
+/// An accepted log has at most 32 locations and 128 events.
+const LOG_MOST: usize = 5 + 32 * 4 + 128 * 8 + 3;
+
+/// Builds a log field by field; each is checked by the proved recorder.
+pub struct Recorder {
+    buffer: [u8; LOG_MOST],
+    used: usize,
+}
+
+impl Recorder {
+    /// A log of a system with so many machines; bit i - 1 of `persistent` is set if machine i's memory is persistent.
+    pub fn new(machines: u8, persistent: u8) -> Result<Recorder, Refusal> {
+        let mut recorder = Recorder::empty();
+        recorder.field(0x01, &[machines, persistent])?;
+        Ok(recorder)
+    }
+
+    /// A log without any field yet.
+    pub fn empty() -> Recorder {
+        Recorder { buffer: [0; LOG_MOST], used: 0 }
+    }
+
+    /// The next location, in the memory of this machine.
+    pub fn location(&mut self, owner: u8) -> Result<(), Refusal> {
+        self.field(0x02, &[owner])
+    }
+
+    /// The next event. What its operation does not use must be 0.
+    pub fn event(&mut self, operation: u8, machine: u8, location: u8, value: u16) -> Result<(), Refusal> {
+        let [low, high] = value.to_le_bytes();
+        self.field(0x03, &[operation, machine, location, low, high])
+    }
+
+    /// Any field.
+    pub fn field(&mut self, tag: u8, payload: &[u8]) -> Result<(), Refusal> {
+        self.used = record(&mut self.buffer, self.used, tag, payload)?;
+        Ok(())
+    }
+
+    /// The bytes so far.
+    pub fn bytes(&self) -> &[u8] {
+        &self.buffer[..self.used]
+    }
+
+    /// The end, and the log's bytes.
+    pub fn finish(mut self) -> Result<Vec<u8>, Refusal> {
+        self.field(0x04, &[])?;
+        Ok(self.bytes().to_vec())
+    }
+}

@@ -1,0 +1,89 @@
+use std::fmt;
+
+/// Why an input is refused. The discriminant is the number of the specification.
+#[derive(Clone, Copy, Debug, PartialEq, Eq, Hash, PartialOrd, Ord)]
+#[repr(u8)]
+pub enum Refusal {
+    /// A lent buffer is too short, or the field does not fit.
+    BufferTooShort = 1,
+    /// Fewer than three bytes are left where a field must start, or a payload is not whole.
+    Truncated,
+    /// The tag may not come next.
+    UnexpectedTag,
+    /// The length is wrong for the tag.
+    WrongLength,
+    /// The machine count is outside 1 to 6, or an absent machine is called persistent.
+    BadTopology,
+    /// The owner is outside 1 to the machine count.
+    BadOwner,
+    /// A 33rd location or a 129th event.
+    TooMany,
+    /// The operation is outside 1 to 7.
+    UnknownOperation,
+    /// The event's machine is outside 1 to the machine count.
+    NoSuchMachine,
+    /// The event's location is not listed.
+    NoSuchLocation,
+    /// A byte that the operation does not use is not 0.
+    ReservedNotZero,
+    /// A byte or a field stands after the end.
+    TrailingBytes,
+    /// The verdict file is no schedule for this log.
+    BadSchedule,
+}
+
+impl Refusal {
+    /// All refusals, by number from 1.
+    pub const ALL: [Refusal; 13] = [
+        Refusal::BufferTooShort,
+        Refusal::Truncated,
+        Refusal::UnexpectedTag,
+        Refusal::WrongLength,
+        Refusal::BadTopology,
+        Refusal::BadOwner,
+        Refusal::TooMany,
+        Refusal::UnknownOperation,
+        Refusal::NoSuchMachine,
+        Refusal::NoSuchLocation,
+        Refusal::ReservedNotZero,
+        Refusal::TrailingBytes,
+        Refusal::BadSchedule,
+    ];
+
+    /// The number of the specification, 1 to 13.
+    pub fn number(self) -> u8 {
+        self as u8
+    }
+
+    /// The refusal with this number.
+    pub fn from_number(number: u8) -> Option<Refusal> {
+        Self::ALL.get(usize::from(number).wrapping_sub(1)).copied()
+    }
+
+    /// What is wrong, in words.
+    pub fn reason(self) -> &'static str {
+        match self {
+            Refusal::BufferTooShort => "a buffer is too short",
+            Refusal::Truncated => "the bytes stop inside a field or before the end field",
+            Refusal::UnexpectedTag => "this tag may not come here",
+            Refusal::WrongLength => "the length is wrong for the tag",
+            Refusal::BadTopology => "the machine count is not 1 to 6, or an absent machine is called persistent",
+            Refusal::BadOwner => "the owner is not one of the machines",
+            Refusal::TooMany => "more than 32 locations or more than 128 events",
+            Refusal::UnknownOperation => "the operation is not 1 to 7",
+            Refusal::NoSuchMachine => "the event's machine is not one of the machines",
+            Refusal::NoSuchLocation => "the event's location is not listed",
+            Refusal::ReservedNotZero => "a byte that the operation does not use is not 0",
+            Refusal::TrailingBytes => "something stands after the end field",
+            Refusal::BadSchedule => "the verdict file does not say allowed, or does not fit this log",
+        }
+    }
+}
+
+impl fmt::Display for Refusal {
+    fn fmt(&self, f: &mut fmt::Formatter) -> fmt::Result {
+        write!(f, "number {} ({self:?}): {}", self.number(), self.reason())
+    }
+}
+
+impl std::error::Error for Refusal {}

@@ -1,0 +1,264 @@
+//! The command line tool as its users call it.
+
+use std::fs;
+use std::path::{Path, PathBuf};
+use std::process::{Command, Output};
+
+use corpus::{damage, encode, plausible, random_log, Random, Shape};
+
+fn tool(words: &[&str]) -> Output {
+    Command::new(env!("CARGO_BIN_EXE_malluvom")).args(words).output().unwrap()
+}
+
+fn status(output: &Output) -> i32 {
+    let errors = String::from_utf8_lossy(&output.stderr);
+    assert!(!errors.contains("panicked"), "{errors}");
+    output.status.code().expect("ended by a signal")
+}
+
+/// A folder of its own for each test.
+fn folder(name: &str) -> PathBuf {
+    let folder = Path::new(env!("CARGO_TARGET_TMPDIR")).join(name);
+    let _ = fs::remove_dir_all(&folder);
+    fs::create_dir_all(&folder).unwrap();
+    folder
+}
+
+fn examples(extension: &str) -> Vec<PathBuf> {
+    let root = Path::new(env!("CARGO_MANIFEST_DIR")).join("../../examples");
+    let mut found = Vec::new();
+    for entry in fs::read_dir(root).unwrap().map(Result::unwrap).filter(|entry| entry.path().is_dir()) {
+        found.extend(fs::read_dir(entry.path()).unwrap().map(|file| file.unwrap().path()));
+    }
+    found.retain(|path| path.extension().is_some_and(|found| found == extension));
+    found.sort();
+    assert!(found.len() >= 14);
+    found
+}
+
+#[test]
+fn examples_assemble_to_their_bytes_and_back() {
+    let folder = folder("assemble");
+    let again = folder.join("again.txt");
+    let log = folder.join("a.log");
+    let verdict = folder.join("a.verdict");
+    let schedule = folder.join("b.verdict");
+    for text in examples("txt") {
+        let bytes = fs::read(text.with_extension("log")).unwrap();
+        let assembled = tool(&["asm", text.to_str().unwrap()]);
+        assert_eq!((status(&assembled), &assembled.stdout), (0, &bytes), "{}", text.display());
+        if malluvom::read(&bytes).is_err() {
+            continue;
+        }
+        fs::write(&log, &bytes).unwrap();
+        status(&tool(&["judge", "--write", log.to_str().unwrap()]));
+        let words = ["show", log.to_str().unwrap(), verdict.to_str().unwrap(), "-o", again.to_str().unwrap()];
+        assert_eq!(status(&tool(&words)), 0);
+        let words = ["asm", again.to_str().unwrap(), "--schedule", schedule.to_str().unwrap()];
+        assert_eq!(tool(&words).stdout, bytes, "{}", text.display());
+        let written = fs::read(&verdict).unwrap();
+        if written[3] == 1 {
+            assert_eq!(fs::read(&schedule).unwrap(), written, "{}", text.display());
+            let replayed = tool(&["replay", log.to_str().unwrap(), schedule.to_str().unwrap()]);
+            assert_eq!((status(&replayed), &replayed.stdout[..]), (0, &b"yes\n"[..]));
+        }
+    }
+}
+
+#[test]
+fn examples_are_judged_explained_and_drawn() {
+    for path in examples("log") {
+        let bytes = fs::read(&path).unwrap();
+        let path = path.to_str().unwrap();
+        let (judged, explained, drawn) = match second::judge_bytes(&bytes) {
+            Ok(second::Verdict::Allowed(_)) => (0, 0, 0),
+            Ok(second::Verdict::Impossible(_)) => (1, 1, 0),
+            Err(_) => (1, 2, 2),
+        };
+        assert_eq!(status(&tool(&["judge", path])), judged, "{path}");
+        assert_eq!(status(&tool(&["explain", path])), explained, "{path}");
+        let picture = tool(&["draw", path]);
+        let locations = second::read(&bytes).map_or(0, |log| log.owners.len());
+        assert_eq!(status(&picture), if locations == 0 { 2 } else { drawn }, "{path}");
+        if status(&picture) == 0 {
+            let svg = String::from_utf8(picture.stdout).unwrap();
+            assert!(svg.starts_with("<svg ") && svg.ends_with("</svg>\n"));
+        }
+    }
+}
+
+#[test]
+fn explanations_name_the_values_that_could_be_read() {
+    let root = Path::new(env!("CARGO_MANIFEST_DIR")).join("../../examples/marked");
+    let explained = |name: &str| {
+        let output = tool(&["explain", root.join(name).to_str().unwrap()]);
+        String::from_utf8(output.stdout).unwrap()
+    };
+    let five = explained("05.log");
+    assert!(five.starts_with("impossible: event 4, Load by 1 of L0, 0\n"));
+    assert!(five.contains("a load by 1 of L0 can return 1, not 0."), "{five}");
+    assert!(five.contains("   2  RFlush by 1 of L0\n"));
+    let four = explained("04.log");
+    assert!(four.contains("~ propagate by 1 of L0"), "{four}");
+}
+
+#[test]
+fn folders_and_json() {
+    let root = Path::new(env!("CARGO_MANIFEST_DIR")).join("../../examples/marked");
+    let judged = tool(&["judge", "--json", root.to_str().unwrap()]);
+    assert_eq!(status(&judged), 1);
+    let lines = String::from_utf8(judged.stdout).unwrap();
+    assert_eq!(lines.lines().count(), 14);
+    assert!(lines.lines().all(|line| line.starts_with("{\"file\":\"") && line.ends_with('}')));
+    assert!(lines.contains("04.log\",\"verdict\":\"allowed\",\"steps\":[[1,0,1]]}"));
+    assert!(lines.contains("07.log\",\"verdict\":\"impossible\",\"event\":6}"));
+    let summary = String::from_utf8(judged.stderr).unwrap();
+    assert_eq!(summary, "5 allowed, 9 impossible, 0 refused, 0 could not be read\n");
+}
+
+#[test]
+fn errors_have_status_2_and_say_what_is_wrong() {
+    let folder = folder("errors");
+    let text = folder.join("bad.txt");
+    let bad = text.to_str().unwrap();
+    for (content, expected) in [
+        ("", "no 'machines' line"),
+        ("machines 2", "persistent"),
+        ("machines 2 persistent all\nL1 of 1", ":2: the next location is L0"),
+        ("machines 2 persistent all\nL0 of 3", ":2: number 6 (BadOwner)"),
+        ("machines 7 persistent none", ":1: number 5 (BadTopology)"),
+        ("machines 2 persistent all\n\nCrash of 3", ":3: number 9 (NoSuchMachine)"),
+        ("machines 2 persistent all\nL0 of 1\nLoad by 1 of L0", ":3: this line should look like 'Load by 1 of L0, 1'"),
+        ("machines 2 persistent all\nL0 of 1\nLoad by 1 of L0, 65536", "'65536' is no number that fits"),
+        ("machines 2 persistent all\nbytes 00", "unchecked"),
+        ("machines 2 persistent all\nend\nCrash of 1", ":3: number 12 (TrailingBytes)"),
+        ("machines 2 persistent all\nStore by 1", "'Store' begins no line"),
+    ] {
+        fs::write(&text, content).unwrap();
+        let output = tool(&["asm", bad]);
+        let errors = String::from_utf8_lossy(&output.stderr).into_owned();
+        assert_eq!(status(&output), 2, "{content}");
+        assert!(errors.contains(expected), "{content}: {errors}");
+    }
+    for words in [
+        &["judge", "/nowhere/a.log"][..],
+        &["judge"],
+        &["asm"],
+        &["asm", "a", "b"],
+        &["show", "/nowhere"],
+        &["frobnicate"],
+        &[],
+        &["judge", "--fast", "x"],
+        &["draw", "x", "-o"],
+        &["replay", "x"],
+    ] {
+        assert_eq!(status(&tool(words)), 2, "{words:?}");
+    }
+    assert_eq!(status(&tool(&["help"])), 0);
+}
+
+#[test]
+fn no_bytes_make_it_panic() {
+    let folder = folder("fuzz");
+    let (log, file) = (folder.join("a.log"), folder.join("a.verdict"));
+    let mut random = Random::new(6);
+    for round in 0..120 {
+        let shape = Shape { crashes: 20, ..Shape::random(&mut random) };
+        let bytes = match round % 4 {
+            0 => {
+                let length = random.below(300);
+                (0..length).map(|_| random.byte()).collect()
+            }
+            1 => encode(&random_log(&mut random, &shape)),
+            _ => {
+                let log = plausible(&mut random, &shape);
+                damage(&mut random, &encode(&log))
+            }
+        };
+        fs::write(&log, &bytes).unwrap();
+        let schedule = match second::judge_bytes(&bytes) {
+            Ok(verdict) => second::verdict_file::write(&verdict),
+            Err(_) => bytes.iter().rev().copied().collect(),
+        };
+        let schedule = if random.percent(50) { damage(&mut random, &schedule) } else { schedule };
+        fs::write(&file, schedule).unwrap();
+        let (log, file) = (log.to_str().unwrap(), file.to_str().unwrap());
+        for words in [
+            &["asm", log][..],
+            &["show", log],
+            &["show", log, file],
+            &["judge", log, file],
+            &["replay", log, file],
+            &["explain", log],
+            &["draw", log],
+            &["draw", "--location", "L1", log],
+        ] {
+            let status = status(&tool(words));
+            assert!((0..=2).contains(&status), "{words:?}: {status}");
+        }
+    }
+}
+
+/// Words of the text form in any order.
+#[test]
+fn no_text_makes_it_panic() {
+    let folder = folder("words");
+    let path = folder.join("a.txt");
+    let words = [
+        "machines",
+        "persistent",
+        "all",
+        "none",
+        "L0",
+        "L1",
+        "L255",
+        "L",
+        "of",
+        "by",
+        "to",
+        ",",
+        "LStore",
+        "Load",
+        "crash",
+        "RFlush",
+        "propagate",
+        "write-back",
+        "bytes",
+        "end",
+        "unchecked",
+        "0",
+        "1",
+        "2",
+        "6",
+        "9",
+        "255",
+        "256",
+        "65536",
+        "99999999999",
+        "-1",
+        "0x",
+        "0xff",
+        "\n",
+        "\n",
+        "\n",
+        "#",
+        "~",
+        "é",
+        "\u{0}",
+        "ff",
+    ];
+    let mut random = Random::new(8);
+    for _ in 0..300 {
+        let mut text = String::new();
+        if random.percent(70) {
+            text.push_str(if random.percent(50) { "unchecked\n" } else { "machines 2 persistent all\nL0 of 1\n" });
+        }
+        for _ in 0..random.below(30) {
+            text.push_str(*random.pick::<&str>(&words));
+            text.push(' ');
+        }
+        fs::write(&path, &text).unwrap();
+        let status = status(&tool(&["asm", path.to_str().unwrap()]));
+        assert!(status == 0 || status == 2, "{text}: {status}");
+    }
+}

@@ -1,0 +1,84 @@
+//! What one location sees of the system. Nothing that happens at one location depends on another.
+
+use crate::{Event, Log, Operation};
+
+/// What the caches and the memory hold for one location. That all copies agree is not assumed.
+#[derive(Clone, Copy, Debug, Default, PartialEq, Eq, Hash)]
+pub(crate) struct Local {
+    /// Bit i - 1 is set if machine i's cache holds a value.
+    holders: u8,
+    /// The value in machine i's cache, at i - 1; 0 where it holds none.
+    copies: [u16; 6],
+    memory: u16,
+}
+
+impl Local {
+    /// What a machine's cache holds.
+    fn cache(&self, machine: u8) -> Option<u16> {
+        let i = machine - 1;
+        (self.holders >> i & 1 == 1).then(|| self.copies[usize::from(i)])
+    }
+
+    /// The state after an event of this location other than a crash, or nothing if it is not possible.
+    pub(crate) fn apply(&self, event: &Event, owner: u8) -> Option<Local> {
+        let (i, v) = (event.machine, event.value);
+        match event.operation {
+            Operation::LStore => Some(Local::holding(i, v, self.memory)),
+            Operation::RStore => Some(Local::holding(owner, v, self.memory)),
+            Operation::MStore => Some(Local::stored(v)),
+            Operation::Load if self.holders == 0 => (self.memory == v).then_some(*self),
+            Operation::Load => self.all_hold(v).then(|| self.with_copy(i, v)),
+            Operation::LFlush => self.cache(i).is_none().then_some(*self),
+            Operation::RFlush => (self.holders == 0).then_some(*self),
+            Operation::Crash => unreachable!("a crash is no event of one location"),
+        }
+    }
+
+    /// The state after a crash of a machine.
+    pub(crate) fn crash(&self, machine: u8, owner: u8, log: &Log) -> Local {
+        let mut next = self.without_copy(machine);
+        if machine == owner && !log.is_persistent(machine) {
+            next.memory = 0;
+        }
+        next
+    }
+
+    /// The state after a silent step, a write-back if the machine is 0, or nothing if it is not possible.
+    pub(crate) fn step(&self, machine: u8, owner: u8) -> Option<Local> {
+        if machine == 0 {
+            return self.cache(owner).map(Local::stored);
+        }
+        if machine == owner {
+            return None;
+        }
+        let value = self.cache(machine)?;
+        Some(self.without_copy(machine).with_copy(owner, value))
+    }
+
+    fn holding(machine: u8, value: u16, memory: u16) -> Local {
+        let empty = Local { memory, ..Local::default() };
+        empty.with_copy(machine, value)
+    }
+
+    fn stored(memory: u16) -> Local {
+        Local { memory, ..Local::default() }
+    }
+
+    fn with_copy(&self, machine: u8, value: u16) -> Local {
+        let mut next = *self;
+        next.holders |= 1 << (machine - 1);
+        next.copies[usize::from(machine - 1)] = value;
+        next
+    }
+
+    fn without_copy(&self, machine: u8) -> Local {
+        let mut next = *self;
+        next.holders &= !(1 << (machine - 1));
+        next.copies[usize::from(machine - 1)] = 0;
+        next
+    }
+
+    fn all_hold(&self, value: u16) -> bool {
+        (1..=6).all(|machine| self.cache(machine).is_none_or(|copy| copy == value))
+    }
+}

@@ -1,0 +1,88 @@
+//! The search of one location, breadth first. A layer is the set of states that the location can be in after so many
+//! events and any silent steps; a layer without states means that no run gets there.
+
+use std::collections::HashSet;
+
+use crate::local::Local;
+use crate::{Log, Operation, Step};
+
+/// How a state was reached: from the node at `parent`, by a silent step or by an event.
+struct Node {
+    state: Local,
+    parent: u32,
+    step: Option<Step>,
+}
+
+/// The search of one location after another; it keeps its memory from one to the next.
+#[derive(Default)]
+pub(crate) struct Search {
+    nodes: Vec<Node>,
+    seen: HashSet<Local>,
+}
+
+impl Search {
+    /// Follows the first `events` events at one location. Gives the silent steps of a run, or the number of the first
+    /// event, counted from 1, that no choice of silent steps lets happen.
+    pub(crate) fn run(&mut self, log: &Log, location: u8, events: usize) -> Result<Vec<Step>, usize> {
+        let owner = log.owners[usize::from(location)];
+        self.nodes.clear();
+        self.seen.clear();
+        self.reach(Local::default(), 0, None);
+        let mut layer = 0;
+        for (passed, event) in log.events[..events].iter().enumerate() {
+            let crash = event.operation == Operation::Crash;
+            if !crash && event.location != location {
+                continue;
+            }
+            let end = self.nodes.len();
+            self.seen.clear();
+            for parent in layer..end {
+                let state = self.nodes[parent].state;
+                let next = if crash { Some(state.crash(event.machine, owner, log)) } else { state.apply(event, owner) };
+                if let Some(next) = next {
+                    self.reach(next, parent, None);
+                }
+            }
+            if self.nodes.len() == end {
+                return Err(passed + 1);
+            }
+            layer = end;
+            self.close(log, location, layer, passed + 1);
+        }
+        Ok(self.steps_to(layer))
+    }
+
+    /// Adds every state that silent steps reach from the layer.
+    fn close(&mut self, log: &Log, location: u8, layer: usize, passed: usize) {
+        let owner = log.owners[usize::from(location)];
+        let mut at = layer;
+        while at < self.nodes.len() {
+            let state = self.nodes[at].state;
+            for machine in 0..=log.machines {
+                if let Some(next) = state.step(machine, owner) {
+                    let step = Step { before: passed as u8, location, machine };
+                    self.reach(next, at, Some(step));
+                }
+            }
+            at += 1;
+        }
+    }
+
+    fn reach(&mut self, state: Local, parent: usize, step: Option<Step>) {
+        if self.seen.insert(state) {
+            self.nodes.push(Node { state, parent: parent as u32, step });
+        }
+    }
+
+    /// The silent steps on the way to a node. The first node is its own parent.
+    fn steps_to(&self, mut at: usize) -> Vec<Step> {
+        let mut steps = Vec::new();
+        while at != 0 {
+            let node = &self.nodes[at];
+            steps.extend(node.step);
+            at = node.parent as usize;
+        }
+        steps.reverse();
+        steps
+    }
+}

@@ -1,0 +1,94 @@
+//! The search of one location at a time against the search over the whole system, and against simulation.
+
+use corpus::{change_one_load, encode, litmus, plausible, random_log, Random, Shape, CACHED, MIXED};
+use second::{judge, read, replay, whole, Log, Replayed, Verdict};
+
+fn small(random: &mut Random) -> Shape {
+    Shape {
+        machines: random.between(1, 3),
+        locations: random.between(1, 2),
+        events: random.below(9),
+        crashes: 25,
+        values: 3,
+        operations: if random.percent(50) { MIXED } else { CACHED },
+    }
+}
+
+/// The verdict, with its schedule replayed and its step count within the bound.
+fn first_impossible(log: &Log) -> Option<u8> {
+    assert_eq!(read(&encode(log)).as_ref(), Ok(log));
+    match judge(log) {
+        Verdict::Allowed(steps) => {
+            assert_eq!(replay(log, &steps), Replayed::Yes);
+            assert!(steps.len() <= log.steps_most());
+            None
+        }
+        Verdict::Impossible(event) => Some(event),
+    }
+}
+
+#[test]
+fn one_location_at_a_time_is_the_whole_system() {
+    let mut random = Random::new(1);
+    let mut impossible = 0;
+    for _ in 0..3000 {
+        let shape = small(&mut random);
+        let log = random_log(&mut random, &shape);
+        let first = first_impossible(&log);
+        assert_eq!(first, whole::first_impossible(&log), "{log:?}");
+        impossible += usize::from(first.is_some());
+    }
+    assert!((600..2400).contains(&impossible), "{impossible} of 3000 impossible");
+}
+
+#[test]
+fn simulated_logs_are_allowed_and_changed_ones_agree() {
+    let mut random = Random::new(2);
+    for _ in 0..1500 {
+        let shape = small(&mut random);
+        let log = plausible(&mut random, &shape);
+        assert_eq!(first_impossible(&log), None, "{log:?}");
+        let changed = change_one_load(&mut random, &log, shape.values);
+        assert_eq!(first_impossible(&changed), whole::first_impossible(&changed), "{changed:?}");
+    }
+}
+
+#[test]
+fn logs_like_litmus_tests_agree() {
+    let mut random = Random::new(5);
+    let mut impossible = 0;
+    for _ in 0..1500 {
+        let log = litmus(&mut random);
+        let first = first_impossible(&log);
+        assert_eq!(first, whole::first_impossible(&log), "{log:?}");
+        impossible += usize::from(first.is_some());
+    }
+    assert!((200..1300).contains(&impossible), "{impossible} of 1500 impossible");
+}
+
+#[test]
+fn large_simulated_logs_are_allowed() {
+    let mut random = Random::new(3);
+    for _ in 0..300 {
+        let shape = Shape::random(&mut random);
+        let log = plausible(&mut random, &shape);
+        assert_eq!(first_impossible(&log), None, "{log:?}");
+    }
+}
+
+/// An event is impossible only together with those before it: every shorter log is allowed, every longer one names the
+/// same event.
+#[test]
+fn the_first_impossible_event_is_the_first() {
+    let mut random = Random::new(4);
+    for _ in 0..500 {
+        let shape = Shape { events: random.between(1, 40), ..Shape::random(&mut random) };
+        let log = random_log(&mut random, &shape);
+        let Some(event) = first_impossible(&log) else {
+            continue;
+        };
+        let first = |events: usize| first_impossible(&Log { events: log.events[..events].to_vec(), ..log.clone() });
+        assert_eq!(first(usize::from(event) - 1), None);
+        assert_eq!(first(usize::from(event)), Some(event));
+    }
+}
