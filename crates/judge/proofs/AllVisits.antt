@@ -38,7 +38,11 @@ module _ {w w' : List ℕ} (only : OnlyIn 0 LOG w w') (n : ℕ) where
 
   pub loaded-same : {t : topology.Topology} → Loaded t n w → Loaded t n w'
   loaded-same l =
-      record { linked = rw logged-same (linked-same (l .linked)); limits = l .limits; named = rw logged-same (l .named) }
+      record {
+        linked = rw logged-same (linked-same (l .linked));
+        limits = l .limits;
+        named = rw logged-same (l .named);
+      }
 
 module _ {t : topology.Topology} {n : ℕ} {w : List ℕ} (loaded : Loaded t n w) where
   pub visits-none : Visits t n 0 w (record { events = n; steps = 0 }) w

@@ -32,8 +32,8 @@ none-written true v number h = let z : _≡_ {A = ℕ} 0 1 = cc in absurd (omega
 none-written false v number h = (refl, (cc))
 
 -- What the writer answered, and the output that it left.
-module _ (may : Bool) (v : Verdict) {out out' : List ℕ} {offset : ℕ} {x : Written} (told-by : writtenOf x ≡ answer may v)
-    (file : out' ≡ output may v out offset) where
+module _ (may : Bool) (v : Verdict) {out out' : List ℕ} {offset : ℕ} {x : Written}
+    (told-by : writtenOf x ≡ answer may v) (file : out' ≡ output may v out offset) where
   pub issued : {n : ℕ} {j : Judged} → x ≡ Written.Length n → (n ≡ length (fileOf v) → answerOf j ≡ told v)
       → Issued may v out offset out' j
   issued {n} e tells =

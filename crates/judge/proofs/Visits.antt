@@ -140,8 +140,12 @@ module _ {t : topology.Topology} {n x : ℕ} {p : Progress} {w : List ℕ} (can 
 
     -- A schedule of the picked events, retimed, is one of the log's events, if these are all.
     module _ {s : Site} (here : s .location .0 ≡ x) (d : Describes sys s) where
+      placed-by : {l : List Event} → T (allNamed sys (map event l)) → Placed sys s l
+      placed-by names =
+          record { describes = d; wellFormed = wellFormed; listed = rw here (can .listed); named = names }
+
       placed : Placed sys s es
-      placed = record { describes = d; wellFormed = wellFormed; listed = rw here (can .listed); named = can .loaded .named }
+      placed = placed-by (can .loaded .named)
 
       whole : m ≡ length es → {qs : List Step} → Schedules s (eventsIn w₁ k) qs
           → Schedules s es (retimed (placesIn w₁ k) qs)
@@ -234,7 +238,8 @@ module _ {t : topology.Topology} {n x : ℕ} {p : Progress} {w : List ℕ} (can 
       module _ (good-all : good ≡ k) where
         run-all : RunsHere (take m es)
         run-all =
-            let all : take good (eventsIn w₁ k) ≡ eventsIn w₁ k = take-all good (eventsIn w₁ k) (rw (events-length w₁ k) (omega arith)) in
+            let long : length (eventsIn w₁ k) ≤ good = rw (events-length w₁ k) (omega arith) in
+            let all = take-all good (eventsIn w₁ k) long in
             leads-run sys leads .1 (rw all at run-good)
 
         -- All of them have a run, but not all events of the log had one before.
@@ -262,14 +267,15 @@ module _ {t : topology.Topology} {n x : ℕ} {p : Progress} {w : List ℕ} (can 
           visit-walkable =
               let ready = found .ready good-all in
               let counted = can .visited .steps everything .0 in
+              let words = length-map (wordsAt STEPS (p .steps) w) stepOfWord in
               let same = events-same (found .frame) k few-picked in
               let names : T (allNamed sys (map event (eventsIn w₂ k))) = rw same kept-named in
               record {
-                few = omega (arith, counted, gathered-few sys es old, size, few, length-map (wordsAt STEPS (p .steps) w) stepOfWord);
+                few = omega (arith, counted, gathered-few sys es old, size, few, words);
                 ready = ready .0;
                 rows = ready .1;
                 system = sys;
-                placed = record { describes = d; wellFormed = wellFormed; listed = rw here (can .listed); named = names };
+                placed = placed-by here d names;
                 runs = rw (same, ← good-all) (found .runs sys d);
               }
 

@@ -44,7 +44,8 @@ pub record Prepared (s : Site) (k : ℕ) (w : List ℕ) : Type 0 where
   pub describes : Describes system s
   pub machines : (j : ℕ) → j < k → OneToSix (machineOf (eventIn w j))
 
--- The first d have a run, and if d is less than k, one more have none; if all have one, the rows for the walk are there.
+-- The first d have a run, and if d is less than k, one more have none; if all have one, the rows for the walk are
+-- there.
 pub record Searched (s : Site) (k : ℕ) (w : List ℕ) (d : ℕ) (w' : List ℕ) : Type 0 where
   pub frame : OnlyIn ROWS STEPS w w'
   pub most : d ≤ k

@@ -100,7 +100,9 @@ module _ (s out : List ℕ) (offset : ℕ) (scratch : List ℕ) (j : Judged) (ou
           omega (arith, leb→le (offset + 1544) (length out) (true→T (fit-out out offset scratch fit)))
 
       stands : take (length (fileOf v)) (drop offset out') ≡ fileOf v
-      stands = ap (λ (l : List ℕ). take (length (fileOf v)) (drop offset l)) file ∙ put-there out offset (fileOf v) inside
+      stands =
+          ap (λ (l : List ℕ). take (length (fileOf v)) (drop offset l)) file
+          ∙ put-there out offset (fileOf v) inside
 
       -- So many bytes of the output from the offset on.
       abbrev from-offset : ℕ → List ℕ

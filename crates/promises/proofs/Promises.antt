@@ -1,9 +1,11 @@
 -- What Malluvom promises: document 01's three demands as theorems. Each speaks of a public call by what its contract
--- ensures, and of nothing else of the program; what is believed is `Cxl0` and `Schedule` of crate model, `Records`,
--- `Bytes`, `Reading`, `Refusals` and `Recording` of log, `Files`, `Schedules` and `Writing` of verdict_file, `Replaying` of replay and
--- `Judging` of judge. No public call has a `requires`, and every call ends: the checker asks that of each function.
+-- ensures, and of nothing else of the program. What a reader has to believe is `Cxl0` and `Schedule` of crate model;
+-- `Records`, `Bytes`, `Reading`, `Refusals` and `Recording` of log; `Files`, `Schedules` and `Writing` of verdict_file;
+-- `Replaying` of replay and `Judging` of judge. No public call has a `requires`, and every call ends: the checker asks
+-- that of each function. That the model is the published one is shown beside it: the eight facts of source 000's
+-- Proposition 1 in model's `Proposition1`, and what flushes and MStores make sure of in `Persistence`.
 use Prim.Native.Nat.{ℕ, _+_, _*_, _-_, _≤_}
-use mathlib.Core.Path.{_≡_}
+use mathlib.Core.Path.{_≡_, sym, _∙_}
 use mathlib.Core.Logic.{_↔_}
 use mathlib.Core.Bool.{true, false}
 use mathlib.Core.List.{List, List·Memᴰ}
@@ -26,6 +28,8 @@ use Rattle.verdict_file.specs.Files.{Verdict, allowed, impossible, fileOf}
 use Rattle.verdict_file.specs.Schedules.{readSchedule}
 use Rattle.replay.specs.Replaying as replaying
 use Rattle.replay.specs.Replaying.{replayLog}
+use Rattle.replay.specs.Answers as told
+use Rattle.replay.specs.declared.Replayed.{Replayed}
 use Rattle.replay.proofs.Replays.{Stops}
 use Rattle.replay.proofs.Demand2
 use Rattle.judge.specs.Clearing.{zeros}
@@ -80,25 +84,26 @@ pub one-form : (s t : List ℕ) → Bytes s → Bytes t → (r : Records)
     → readLog s ≡ accepted r → readLog t ≡ accepted r → s ≡ t
 one-form = OneForm.one-form
 
--- Replay, which answers what `replayLog` says, says yes exactly when log and schedule are read and together are a run
--- of the whole system from empty caches and initial memories.
-pub replay-yes : (s f : List ℕ)
-    → (replayLog s f ≡ replaying.Answer.yes)
-    ↔ ((r : Records)
-    × (ps : List Step)
-    × (readLog s ≡ accepted r)
-    × (readSchedule (systemOf r) (length (r .events)) f ≡ some ps)
-    × Run (systemOf r) (weave (r .events) ps))
-replay-yes = Demand2.yes-exactly
+-- What `replay` answered, as its contract ensures it.
+module _ (s f : List ℕ) (a : Replayed) (replayed : told.answerOf a ≡ replayLog s f) where
+  -- Yes exactly when log and schedule are read and together are a run of the whole system from empty caches and
+  -- initial memories.
+  pub replay-yes : (told.answerOf a ≡ replaying.Answer.yes)
+      ↔ ((r : Records)
+      × (ps : List Step)
+      × (readLog s ≡ accepted r)
+      × (readSchedule (systemOf r) (length (r .events)) f ≡ some ps)
+      × Run (systemOf r) (weave (r .events) ps))
+  replay-yes = rw replayed (Demand2.yes-exactly s f)
 
--- It says no, and how many events passed, where the first thing not possible comes after so many events.
-pub replay-no : (s f : List ℕ) (k : ℕ) → replayLog s f ≡ replaying.Answer.no k
-    → (r : Records)
-    × (ps : List Step)
-    × (readLog s ≡ accepted r)
-    × (readSchedule (systemOf r) (length (r .events)) f ≡ some ps)
-    × Stops (systemOf r) (weave (r .events) ps) (start (systemOf r)) k
-replay-no = Demand2.no-passed
+  -- No, and how many events passed, where the first thing not possible comes after so many events.
+  pub replay-no : (k : ℕ) → told.answerOf a ≡ replaying.Answer.no k
+      → (r : Records)
+      × (ps : List Step)
+      × (readLog s ≡ accepted r)
+      × (readSchedule (systemOf r) (length (r .events)) f ≡ some ps)
+      × Stops (systemOf r) (weave (r .events) ps) (start (systemOf r)) k
+  replay-no k e = Demand2.no-passed s f k (sym replayed ∙ e)
 
 -- ==== Demand 3: allowed and impossible
 
