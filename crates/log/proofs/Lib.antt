@@ -4,6 +4,7 @@ pub mod Tests
 pub mod Admission
 pub mod Summaries
 pub mod Passes
+pub mod Taken
 pub mod Progress
 pub mod Logs
 pub mod Walks

@@ -8,10 +8,11 @@ use borrow.Author.Tests.{eq-eqb}
 use lib.Dec.{T, eqb, eqb→eq, eqb-refl}
 use Rattle.model.specs.Cxl0.{Machine}
 use Rattle.model.specs.Sharers.{has, insert, remove}
-use Rattle.model.specs.OneLocation.{moved}
+use Rattle.model.specs.OneLocation.{moved, Moves, stay, move}
 use Rattle.model.proofs.Tests.{by-test, ne-test, or-l}
 use Rattle.model.proofs.Sharers.{has-insert, has-remove, insert-bound, remove-le, same-code}
 use Rattle.model.proofs.Expand.{has-insert-of}
+use Rattle.model.proofs.SilentSteps.{has→some}
 use Rattle.model.proofs.SomeSilent.{swap}
 use Rattle.masks.specs.Sets.{OneToSix}
 
@@ -58,6 +59,13 @@ insert-fits (suc i) c o h = insert-bound 6 i c (o .1) h
 pub moved-fits : (k i : Machine) (c : ℕ) → OneToSix k → c < 64 → moved k i c < 64
 unfolding moved
 moved-fits k i c o h = insert-fits k (remove i c) o (lt-of-le-of-lt (remove-le i c) h)
+
+-- Moves leave the owner a copy, so that they come to code 0 only from code 0, without a move.
+pub moves-to-none : {k c d : ℕ} → 1 ≤ k → Moves k c d → d ≡ 0 → c ≡ 0
+unfolding moved
+moves-to-none l stay z = z
+moves-to-none {k} {c} l (move i t r) z =
+    absurd (has→some k (moved k i c) (has-itself k (remove i c) l) (moves-to-none l r z))
 
 -- A move of the owner to itself is the owner's coming.
 pub moved-owner : (k : Machine) (c : ℕ) → 1 ≤ k → moved k k c ≡ insert k c

@@ -128,7 +128,7 @@ pub fn gaining(m: u64, i: Machine) -> u64
 
 // The codes from which moves to the owner k reach the set. Moves of different machines commute, so that one
 // pass over the machines finds them all; `near` has the codes that are in `r` once they gain k.
-pub fn leading(m: u64, k: Machine) -> u64
+fn one_pass(m: u64, k: Machine) -> u64
     requires { ⌜ OneToSix (k .0) ⌝ }
     ensures { λ r. ⌜ Exactly r (Leads (k .0) m) ⌝ }
 {
@@ -140,4 +140,20 @@ pub fn leading(m: u64, k: Machine) -> u64
         r = r | more;
     }
     r
+}
+
+// The codes from which moves to the owner k reach the set. No move leads from code 0 or to it, so that a set
+// with none or all of the other codes gains no code.
+pub fn leading(m: u64, k: Machine) -> u64
+    requires { ⌜ OneToSix (k .0) ⌝ }
+    ensures { λ r. ⌜ Exactly r (Leads (k .0) m) ⌝ }
+{
+    let others = m | 1;
+    if others == 1 {
+        return m;
+    }
+    if others == 0xffff_ffff_ffff_ffff {
+        return m;
+    }
+    one_pass(m, k)
 }

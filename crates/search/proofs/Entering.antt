@@ -1,6 +1,7 @@
 -- Into a row by silent steps: by moves to a code that the row has, or else by a write-back.
 use Prim.Native.Nat.{ℕ, _<_}
-use mathlib.Core.Path.{_≡_, refl, subst}
+use native.Mathlib.Omega.{arith}
+use mathlib.Core.Path.{_≡_, refl, sym, subst, _∙_}
 use mathlib.Core.Logic.{_≢_, ⊎-elim}
 use mathlib.Core.Bool.{Bool, true, false, not, _&&_}
 use mathlib.Core.List.{[], _∷_, _++_}
@@ -12,7 +13,8 @@ use Rattle.model.specs.OneLocation.{moved, Moves}
 use Rattle.model.proofs.Tests.{and-i, or-l, ne→test, true→T, false→not}
 use Rattle.model.proofs.SilentSteps.{moves-bound}
 use Rattle.masks.specs.Sets.{In, Exactly, OneToSix}
-use Rattle.masks.proofs.Sets.{in-and, in-none}
+use Rattle.masks.proofs.Sets.{in-bound, in-and, in-none}
+use Rattle.masks.proofs.Codes.{moves-to-none}
 use Rattle.model.proofs.SilentSteps.{has-moved}
 use Rattle.moves.specs.Reach.{Reached}
 use Rattle.search.specs.declared.Row.{Row}
@@ -42,6 +44,20 @@ module _ (k : Machine) (o : OneToSix k) (row : Row) (c m r q : ℕ) (h : c < 64)
       absurd (in-none d (rw e at both)))
       (λ b. (b .0, subst (λ (z : ℕ). Fine row z u) (b .1) (subst (Fine row d) (b .2) f)))
       (reach .1)
+
+-- If the row has no code but 0 at m, and not c, a write-back leads into it.
+pub enters-drained : (k : Machine) → OneToSix k → (row : Row) (c m q : ℕ) → c < 64
+    → Exactly q (λ d. Fine row d m) → q < 2 → (u : Value) → Enters k u row c m → ¬ Fine row c m
+    → (c ≢ 0) × Fine row 0 u
+enters-drained k o row c m q h codes l u (d, n, reach, f) away =
+    ⊎-elim
+    (λ a.
+    let fits = moves-bound 6 (o .0) (o .1) (a .1) h in
+    let fine = subst (Fine row d) (a .0) f in
+    let z : d ≡ 0 = omega (arith, in-bound 1 q d l (codes d fits .1 fine)) in
+    absurd (away (subst (λ (e : ℕ). Fine row e m) (z ∙ sym (moves-to-none (o .0) (a .1) z)) fine)))
+    (λ b. (b .0, subst (λ (z : ℕ). Fine row z u) (b .1) (subst (Fine row d) (b .2) f)))
+    (reach .1)
 
 -- A machine that has a copy can drain a code.
 pub draining-trail : (k c i : ℕ) → OneToSix k → T (has i c) → (u m : Value)

@@ -108,7 +108,8 @@ fn write_back(w: &mut [u64], site: Site, t: usize, u: u32, p: Place) -> Place
 }
 
 // The silent steps before event t, in which copies have the value u: none if the row has the place, else moves
-// to the least code that they reach and the row has, else a write-back.
+// to the least code that they reach and the row has, else a write-back. No moves reach code 0, so that a row
+// with no other code takes a write-back.
 fn gap(w: &mut [u64], site: Site, t: usize, u: u32, row: Row, p: Place) -> Place
     requires { ⌜ (p .end + 6 ≤ length (now w)) × (t < 256) ⌝ }
     requires { ⌜ OneToSix (site .owner .0) ⌝ }
@@ -118,7 +119,11 @@ fn gap(w: &mut [u64], site: Site, t: usize, u: u32, row: Row, p: Place) -> Place
     if fine(row, p.code, p.memory) {
         return p;
     }
-    let there = reach(site.owner, p.code) & codes(row, p.memory);
+    let wanted = codes(row, p.memory);
+    if wanted < 2 {
+        return write_back(w, site, t, u, p);
+    }
+    let there = reach(site.owner, p.code) & wanted;
     if there != 0 {
         let d = lowest(there);
         let end = move_to(w, p.end, site, t, p.code, d);
@@ -196,7 +201,8 @@ fn turn(w: &mut [u64], site: Site, t: usize, p: Place) -> Place
     if concerned(site, e) {
         let u = get_copy(&*w, t);
         let rest = get_row(&*w, t + 1);
-        let row = row_before(site, e, u, rest);
+        // The event is read again for the table, which is quicker than handing on e.
+        let row = row_before(site, get_event(&*w, t), u, rest);
         let q = gap(w, site, t, u, row, p);
         return place_after(site, e, q);
     }

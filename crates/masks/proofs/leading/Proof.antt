@@ -1,66 +1,58 @@
--- `masks::leading` meets its contract. The loop's invariant: the pass is at machine i, for every owner k
--- such that `near` began with the codes that are in m once they gain k.
-use Prim.Native.Nat.{ℕ, _≤_, _-_}
+-- `masks::leading` meets its contract: no move leads from code 0 or to it, so that a set with none or all of
+-- the other codes gains no code.
+use Prim.Native.Nat.{ℕ, _<_}
 use native.Mathlib.Omega.{arith}
-use mathlib.Core.Path.{_≡_}
-use Rattle.model.specs.Sharers.{insert}
-use Rattle.masks.specs.Sets.{In, Exactly, OneToSix}
-use Rattle.masks.proofs.OnePass.{Led, led-none, led-more, led-all}
+use mathlib.Core.Path.{_≡_, sym, subst, _∙_}
+use mathlib.Core.Logic.{_⊎_, ⊎-elim, inl}
+use mathlib.Core.Bool.{true}
+use lib.Bits.{bitOr}
+use Rattle.model.specs.Cxl0.{Machine}
+use Rattle.model.specs.OneLocation.{stay}
+use Rattle.model.proofs.SilentSteps.{moves-none}
+use Rattle.masks.specs.Sets.{In, Exactly, Leads, OneToSix}
+use Rattle.masks.proofs.Sets.{in-bound, in-or}
+use Rattle.masks.proofs.Codes.{moves-to-none}
+use Rattle.masks.proofs.Constants.{every, exactly}
 use Rattle.masks.proofs.leading.Statement.{statement}
 use Rattle.masks.proofs.leading.Tie as tie
 
-abbrev Inv-loop : tie.InvT-loop
-Inv-loop m r₀ near₀ i₀ r near i =
-    (1 ≤ i) × (i ≤ 7)
-    × ((k : ℕ) → OneToSix k → Exactly near₀ (λ t. In (insert k t) m) → Led k m i r near)
+-- The set {0} has no code but 0.
+zero : (t : ℕ) → In t 1 → t ≡ 0
+zero t i = omega (arith, in-bound 1 1 t (omega arith) i)
 
-abbrev μ-loop : tie.MeasureT-loop
-μ-loop m r₀ near₀ i₀ r near i = 7 - i
+module _ (k : Machine) (m : ℕ) where
+  -- The set has no code but 0, if any.
+  few : OneToSix k → bitOr m 1 ≡ 1 → Exactly m (Leads k m)
+  few o e t h = (λ i. (t, h, stay, i), back)
+    where
+      back : Leads k m t → In t m
+      back (d, f, w, i) =
+          let z = zero d (subst (λ (n : ℕ). In d n) e (in-or m 1 d .1 (inl i))) in
+          subst (λ (n : ℕ). In n m) (z ∙ sym (moves-to-none (o .0) w z)) i
 
-gaining-requires : tie.Need-gaining-requires Inv-loop μ-loop
-gaining-requires c κs = omega arith
+  -- The set has every code, except perhaps 0.
+  many : bitOr m 1 ≡ 0xffff_ffff_ffff_ffff → Exactly m (Leads k m)
+  unfolding every
+  many e t h = (λ i. (t, h, stay, i), λ d. back d (in-or m 1 t .0 (rw e full)))
+    where
+      full : In t 0xffff_ffff_ffff_ffff
+      full = exactly 0xffff_ffff_ffff_ffff (λ s. true) tt t h .1 tt
 
-loop-holds : tie.Need-loop-holds Inv-loop μ-loop
-loop-holds c = (omega arith, omega arith, λ k o n. led-none k o (c .before .args .m) (c .gaining .result) n)
+      back : Leads k m t → In t m ⊎ In t 1 → In t m
+      back (d, f, w, i) =
+          ⊎-elim (λ j. j) (λ j. let z = zero t j in subst (λ (n : ℕ). In n m) (moves-none w z ∙ sym z) i)
 
-giving-up-requires : tie.Need-giving-up-requires Inv-loop μ-loop
-giving-up-requires c κs = omega arith
+returns : tie.Need-returns
+returns c = few _ _ (c .before .pre) (c .if1 .taken)
 
-add-i : tie.Need-add-i Inv-loop μ-loop
-add-i c = omega arith
+returns-2 : tie.Need-returns-2
+returns-2 c = many _ _ (c .if2 .taken)
 
-loop-less : tie.Need-loop-less Inv-loop μ-loop
-loop-less c = omega arith
+one-pass-requires : tie.Need-one-pass-requires
+one-pass-requires c κs = c .before .before .pre
 
-loop-again : tie.Need-loop-again Inv-loop μ-loop
-loop-again c =
-    let m = c .before .before .before .before .args .m in
-    let at = c .before .before .loop in
-    let more = c .giving-up in (
-      omega arith,
-      omega arith,
-      λ k o n. led-more k o m (at .i) (at .r) (at .near) (more .result) (at .inv .2 k o n) (more .ensures),
-    )
-
-returns : tie.Need-returns Inv-loop μ-loop
-returns c =
-    let start = c .before .before .before in
-    let at = c .before .loop in
-    let k = start .args .k .0 in
-    let last : at .i ≡ 7 = omega arith in
-    let led = at .inv .2 k (start .pre) (c .before .before .gaining .ensures) in
-    led-all k (start .pre) (start .args .m) (at .r) (at .near) (rw last at led)
+returns-3 : tie.Need-returns-3
+returns-3 c = c .one-pass .ensures
 
 pub leading-spec : {M : Type 1} → statement M
-leading-spec =
-    tie.close
-    (tie.spec
-    Inv-loop
-    μ-loop
-    gaining-requires
-    loop-holds
-    giving-up-requires
-    add-i
-    loop-less
-    loop-again
-    returns)
+leading-spec = tie.close (tie.spec returns returns-2 one-pass-requires returns-3)

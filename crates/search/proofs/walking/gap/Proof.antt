@@ -1,7 +1,9 @@
 -- `gap` meets its contract.
 use Prim.Native.Nat.{_<_}
 use native.Mathlib.Omega.{arith}
+use mathlib.Core.Path.{sym, _∙_}
 use mathlib.Core.Logic.{_≢_}
+use mathlib.Core.Bool.{true≢false}
 use mathlib.Core.List.{[]}
 use borrow.Author.Needs.{needs}
 use Rattle.model.specs.OneLocation.{Moves}
@@ -9,7 +11,7 @@ use Rattle.search.specs.Rows.{Fine}
 use Rattle.search.specs.Trails.{none, leaving}
 use Rattle.search.proofs.Stored.{stored-none}
 use Rattle.search.proofs.Givers.{leaving-few, leaving-trail}
-use Rattle.search.proofs.Entering.{enters-moves, enters-written}
+use Rattle.search.proofs.Entering.{enters-moves, enters-written, enters-drained}
 use Rattle.search.proofs.walking.gap.Statement.{statement}
 use Rattle.search.proofs.walking.gap.Tie as tie
 
@@ -30,39 +32,67 @@ returns c =
       c .before .fine .ensures .0 (c .if1 .taken),
     )
 
-reach-requires : tie.Need-reach-requires
-reach-requires c κs = search needs
-
 codes-requires : tie.Need-codes-requires
 codes-requires c κs = search needs
+
+-- Where the row has no code but 0 at the place's memory value, a write-back leads into it.
+drained : (h : tie.Then2) → let a : _ = h .before .before .before .before .before .args in
+    (a .p .code ≢ 0) × Fine (a .row) 0 (a .u)
+drained h =
+    let codes = h .before in
+    let left = codes .before in
+    let start = left .before .before .before in
+    let a = start .args in
+    enters-drained (a .site .owner .0) (start .pre .1 .0) (a .row) (a .p .code) (a .p .memory)
+    (codes .codes .result) (start .pre .1 .1 .0) (codes .codes .ensures) (omega arith)
+    (a .u) (start .pre .1 .1 .1)
+    (λ f. true≢false (sym (left .before .fine .ensures .1 f) ∙ left .if1 .left))
+
+write-back-requires : tie.Need-write-back-requires
+write-back-requires c κs =
+    let w = drained (c .before) in
+    (omega arith, (omega arith, (omega arith, w .0)))
+
+same-length : tie.Need-same-length
+same-length c = search needs
+
+returns-2 : tie.Need-returns-2
+returns-2 c =
+    let back = c .before .before in
+    let state = back .write-back .ensures .1 in
+    (back .write-back .ensures .0, rw (state .0, state .1) (drained (back .before .before) .1))
+
+reach-requires : tie.Need-reach-requires
+reach-requires c κs = search needs
 
 lowest-requires : tie.Need-lowest-requires
 lowest-requires c κs = search needs
 
 -- The least code of both sets is one that moves reach and the row has.
 entered : (h : tie.After-lowest)
-    → let a : _ = h .before .before .before .before .before .before .before .args in
+    → let a : _ = h .before .before .before .before .before .before .before .before .args in
     let d : _ = h .lowest .result in
     (d < 64) × Moves (a .site .owner .0) (a .p .code) d × Fine (a .row) d (a .p .memory)
 entered h =
-    let codes = h .before .before in
-    let start = codes .before .before .before .before .before in
+    let reach = h .before .before in
+    let codes = reach .before .before in
+    let start = codes .before .before .before .before in
     let a = start .args in
     enters-moves (a .site .owner .0) (start .pre .1 .0) (a .row) (a .p .code) (a .p .memory)
-    (codes .before .reach .result) (codes .codes .result) (start .pre .1 .1 .0)
-    (codes .before .reach .ensures) (codes .codes .ensures) (h .lowest .result) (h .lowest .ensures .0)
+    (reach .reach .result) (codes .codes .result) (start .pre .1 .1 .0)
+    (reach .reach .ensures) (codes .codes .ensures) (h .lowest .result) (h .lowest .ensures .0)
 
 move-to-requires : tie.Need-move-to-requires
 move-to-requires c κs = (omega arith, (omega arith, entered (c .before) .0))
 
-same-length : tie.Need-same-length
-same-length c = search needs
+same-length-2 : tie.Need-same-length-2
+same-length-2 c = search needs
 
 -- Moves lead to a code that the row has.
-returns-2 : tie.Need-returns-2
-returns-2 c =
+returns-3 : tie.Need-returns-3
+returns-3 c =
     let least = c .before .before .before .before in
-    let start = least .before .before .before .before .before .before .before in
+    let start = least .before .before .before .before .before .before .before .before in
     let a = start .args in
     let k = a .site .owner .0 in
     let d = least .lowest .result in
@@ -78,30 +108,31 @@ returns-2 c =
     )
 
 -- Where no moves do, a write-back leads into the row.
-written : (h : tie.Else2) → let a : _ = h .before .before .before .before .before .before .args in
+written : (h : tie.Else3) → let a : _ = h .before .before .before .before .before .before .before .args in
     (a .p .code ≢ 0) × Fine (a .row) 0 (a .u)
 written h =
-    let codes = h .before in
-    let start = codes .before .before .before .before .before in
+    let reach = h .before in
+    let codes = reach .before .before in
+    let start = codes .before .before .before .before in
     let a = start .args in
     enters-written (a .site .owner .0) (start .pre .1 .0) (a .row) (a .p .code) (a .p .memory)
-    (codes .before .reach .result) (codes .codes .result) (start .pre .1 .1 .0)
-    (codes .before .reach .ensures) (codes .codes .ensures) (a .u) (start .pre .1 .1 .1) (h .if2 .left)
+    (reach .reach .result) (codes .codes .result) (start .pre .1 .1 .0)
+    (reach .reach .ensures) (codes .codes .ensures) (a .u) (start .pre .1 .1 .1) (h .if3 .left)
 
-write-back-requires : tie.Need-write-back-requires
-write-back-requires c κs =
+write-back-requires-2 : tie.Need-write-back-requires-2
+write-back-requires-2 c κs =
     let w = written (c .before) in
     (omega arith, (omega arith, (omega arith, w .0)))
 
-same-length-2 : tie.Need-same-length-2
-same-length-2 c = search needs
+same-length-3 : tie.Need-same-length-3
+same-length-3 c = search needs
 
-returns-3 : tie.Need-returns-3
-returns-3 c =
+returns-4 : tie.Need-returns-4
+returns-4 c =
     let back = c .before .before in
     let h = back .before .before in
-    let state = back .write-back .ensures .1 in
-    (back .write-back .ensures .0, rw (state .0, state .1) (written h .1))
+    let state = back .write-back2 .ensures .1 in
+    (back .write-back2 .ensures .0, rw (state .0, state .1) (written h .1))
 
 pub gap-spec : {M : Type 1} → statement M
 gap-spec =
@@ -109,12 +140,15 @@ gap-spec =
     (tie.spec
     fine-requires
     returns
-    reach-requires
     codes-requires
-    lowest-requires
-    move-to-requires
+    write-back-requires
     same-length
     returns-2
-    write-back-requires
+    reach-requires
+    lowest-requires
+    move-to-requires
     same-length-2
-    returns-3)
+    returns-3
+    write-back-requires-2
+    same-length-3
+    returns-4)

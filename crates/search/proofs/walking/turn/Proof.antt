@@ -66,30 +66,45 @@ row h =
     let a = h .before .before .before .before .before .before .before .before .before .args in
     h .get-row .ensures ∙ ap (rowIn (a .w .now)) (add-one (a .t))
 
+get-event-requires-2 : tie.Need-get-event-requires-2
+get-event-requires-2 c κs = search needs
+
+-- The event that is read for the table is the same.
+again : (h : tie.After-get-event2)
+    → let r : _ = h .before .before .before .before .before .before .before .before in
+    h .get-event2 .result ≡ r .get-event .result
+again h =
+    let read = h .before .before .before .before .before .before .before .before in
+    h .get-event2 .ensures ∙ sym (read .get-event .ensures)
+
 row-before-requires : tie.Need-row-before-requires
 row-before-requires c κs =
-    let copy = c .before .before in
+    let after = c .before .before in
+    let copy = after .before .before in
     let read = copy .before .before .before .before in
     let asked = read .before .before .before .pre .steppable in
-    (asked .owner, (machine read, rw (event read, copy .get-copy .ensures, row c) (asked .closed)))
+    rw (again c)
+    (asked .owner, (machine read, rw (event read, copy .get-copy .ensures, row after) (asked .closed)))
 
 -- The row before it is the table's.
 line : (h : tie.After-row-before)
-    → let a : _ = h .before .before .before .before .before .before .before .before .before .before .args in
+    → let r : _ = h .before .before .before .before .before .before .before .before .before in
+    let a : _ = r .before .before .before .args in
     (sys : Topology) → Describes sys (a .site)
     → RowOf
     (λ c m. Line sys (a .site .location .0) (eventIn (a .w .now) (a .t)) (copyIn (a .w .now) (a .t))
     (rowIn (a .w .now) (suc (a .t))) c m)
     (h .row-before .result)
 line h =
-    let copy = h .before .before .before in
+    let after = h .before .before .before in
+    let copy = after .before .before in
     let read = copy .before .before .before .before in
-    rw (event read, copy .get-copy .ensures, row (h .before)) at (h .row-before .ensures)
+    rw (again (h .before), event read, copy .get-copy .ensures, row after) at (h .row-before .ensures)
 
 gap-requires : tie.Need-gap-requires
 gap-requires c κs =
     let h = c .before in
-    let copy = h .before .before .before in
+    let copy = h .before .before .before .before .before in
     let then = copy .before .before in
     let start = then .before .before .before .before .before in
     let a = start .args in
@@ -102,7 +117,8 @@ gap-requires c κs =
 place-after-requires : tie.Need-place-after-requires
 place-after-requires c κs =
     let gap = c .before .before in
-    let read = gap .before .before .before .before .before .before .before .before .before in
+    let table = gap .before .before in
+    let read = table .before .before .before .before .before .before .before .before .before in
     (read .before .before .before .pre .steppable .owner, (machine read, gap .gap .ensures .0 .fits))
 
 same-length : tie.Need-same-length
@@ -112,7 +128,7 @@ returns : tie.Need-returns
 returns c =
     let gap = c .before .before .before in
     let h = gap .before .before in
-    let copy = h .before .before .before in
+    let copy = h .before .before .before .before .before in
     let then = copy .before .before in
     let start = then .before .before .before .before .before in
     let a = start .args in
@@ -141,6 +157,7 @@ turn-spec =
     get-copy-requires
     add-get-row
     get-row-requires
+    get-event-requires-2
     row-before-requires
     gap-requires
     place-after-requires
