@@ -73,31 +73,31 @@ module _ (sys : Topology) (w : WellFormed sys) (x : Location) (p : T (sys .persi
 -- ---- figure 5 of source 000
 
 -- Three machines with persistent memories; L0 is machine 2's.
-abbrev shelf : Topology
-shelf = persistent (2 ∷ [])
+abbrev sys5 : Topology
+sys5 = persistent (2 ∷ [])
 
 -- Machine 1 stores 1 to L0 and loads it; machine 2 crashes; machine 1 loads 0. Flushes may come after the
 -- store, and after the first load.
 abbrev figure5 : List Event → List Event → List Event
 figure5 f g = LStore 1 L0 1 ∷ f ++ Load 1 L0 1 ∷ g ++ Crash 2 ∷ Load 1 L0 0 ∷ []
 
-shelf-fits : WellFormed shelf
-shelf-fits = owners-fit shelf (unfold ownersFit three persistent in tt)
+sys5-fits : WellFormed sys5
+sys5-fits = owners-fit sys5 (unfold ownersFit three persistent in tt)
 
-allowed : (es : List Event) → T (decide shelf es) → HasRun shelf es
-allowed es t = decide-correct shelf shelf-fits es .0 t
+allowed : (es : List Event) → T (decide sys5 es) → HasRun sys5 es
+allowed es t = decide-correct sys5 sys5-fits es .0 t
 
-impossible : (es : List Event) → T (not (decide shelf es)) → ¬ HasRun shelf es
-impossible es t r = T-not (decide shelf es) t (decide-correct shelf shelf-fits es .1 r)
+impossible : (es : List Event) → T (not (decide sys5 es)) → ¬ HasRun sys5 es
+impossible es t r = T-not (decide sys5 es) t (decide-correct sys5 sys5-fits es .1 r)
 
 -- The loads may differ with no flush, with an LFlush after the store, and with one after the first load too.
 -- With an RFlush at either place they may not.
 pub figure-5 :
-    HasRun shelf (figure5 [] [])
-    × HasRun shelf (figure5 (LFlush 1 L0 ∷ []) [])
-    × HasRun shelf (figure5 (LFlush 1 L0 ∷ []) (LFlush 1 L0 ∷ []))
-    × ¬ HasRun shelf (figure5 (RFlush 1 L0 ∷ []) [])
-    × ¬ HasRun shelf (figure5 [] (RFlush 1 L0 ∷ []))
+    HasRun sys5 (figure5 [] [])
+    × HasRun sys5 (figure5 (LFlush 1 L0 ∷ []) [])
+    × HasRun sys5 (figure5 (LFlush 1 L0 ∷ []) (LFlush 1 L0 ∷ []))
+    × ¬ HasRun sys5 (figure5 (RFlush 1 L0 ∷ []) [])
+    × ¬ HasRun sys5 (figure5 [] (RFlush 1 L0 ∷ []))
 unfolding
     three persistent decide everyBelow good someSilent someMoved
     isMachine isLocation owner initial crashes clears named allNamed has insert remove
