@@ -10,8 +10,8 @@ use Rattle.model.specs.Schedule.{Step, inOrder}
 use Rattle.model.proofs.Tests.{and-l}
 use Rattle.log.specs.Records.{Records, systemOf}
 use Rattle.log.specs.Reading.{Log, accepted, rejected, readLog}
-use Rattle.log.specs.Recording.{Recorded, count, rejected, recorded}
-use Rattle.log.proofs.Lengths.{count-most}
+use Rattle.recorder.specs.Recording.{Recorded, count, rejected, recorded}
+use Rattle.recorder.proofs.Counts.{count-most}
 use Rattle.verdict_file.specs.Files.{Verdict, allowed, impossible, fileOf, stepsMost}
 use Rattle.verdict_file.specs.Schedules.{everyStepFits, scheduleFits}
 use Rattle.verdict_file.proofs.Files.{length-allowed, length-impossible, short}

@@ -2,8 +2,8 @@
 use Prim.Native.Nat.{ℕ, _*_, _/_, _%_, _^_, _<_}
 use native.Mathlib.Omega.{arith}
 use mathlib.Core.Path.{_≡_}
-use Rattle.log.specs.Recording.{count}
-use Rattle.log.specs.Answers.{holds}
+use Rattle.reader.specs.Answers.{holds}
+use Rattle.recorder.specs.Recording.{count}
 use Rattle.replay.specs.Replaying.{no}
 use Rattle.judge.specs.Judging.{gives}
 use Rattle.capi.specs.Packing.{packRecorded, packSummary, packReplayed, packJudged}

@@ -3,8 +3,8 @@
 use Prim.Native.Nat.{ℕ, _+_, _*_, _^_, _<_}
 use mathlib.Core.Path.{_≡_}
 use mathlib.Core.List.{List}
-use Rattle.log.specs.Recording.{Recorded, count, rejected}
-use Rattle.log.specs.Answers.{Summary, holds, refused}
+use Rattle.reader.specs.Answers.{Summary, holds, refused}
+use Rattle.recorder.specs.Recording.{Recorded, count, rejected}
 use Rattle.replay.specs.Replaying as replaying
 use Rattle.judge.specs.Judging as judging
 use Rattle.judge.specs.Judging.{Judges}

@@ -4,17 +4,17 @@
 mod packing;
 
 use judge::judge;
-use log::reader::read;
-use log::recording::record;
 use packing::pack_judged;
 use packing::pack_reading;
 use packing::pack_recorded;
 use packing::pack_replayed;
+use reader::read;
+use recorder::record;
 use replay::replay;
 ghost use mathlib.Core.Path.{_≡_};
 ghost use Rattle.log.specs.Reading.{readLog};
-ghost use Rattle.log.specs.Recording.{recorded, written};
-ghost use Rattle.log.specs.Answers.{summaryOf};
+ghost use Rattle.reader.specs.Answers.{summaryOf};
+ghost use Rattle.recorder.specs.Recording.{recorded, written};
 ghost use Rattle.replay.specs.Replaying.{replayLog};
 ghost use Rattle.capi.specs.Packing.{packRecorded, packSummary, packReplayed, JudgesPacked};
 

@@ -1,15 +1,16 @@
 // Answers as numbers of 64 bits.
+use fields::Refusal;
+use fields::refusals::number_of;
 use judge::Judged;
 use log::Head;
-use log::Reading;
-use log::Recorded;
-use log::Refusal;
-use log::refusals::number_of;
+use reader::Reading;
+use recorder::Recorded;
 use replay::Replayed;
 ghost use mathlib.Core.Path.{_≡_};
 ghost use Prim.Native.Nat.{_+_, _*_, _^_, _<_};
-ghost use Rattle.log.specs.Refusals.{numberOf};
-ghost use Rattle.log.specs.Answers as log;
+ghost use Rattle.fields.specs.Refusals.{numberOf};
+ghost use Rattle.reader.specs.Answers as reader;
+ghost use Rattle.recorder.specs.Recording as recorder;
 ghost use Rattle.replay.specs.Answers as replay;
 ghost use Rattle.judge.specs.Judging as judging;
 ghost use Rattle.capi.specs.Packing.{packRecorded, packSummary, packReplayed, packJudged};
@@ -32,8 +33,8 @@ fn count(used: usize) -> u64
 
 // What recording a field comes to.
 pub(crate) fn pack_recorded(answer: Recorded) -> u64
-    requires { ⌜ RecordedFits (log.answerOf answer) ⌝ }
-    ensures { λ r. ⌜ r ≡ packRecorded (log.answerOf answer) ⌝ }
+    requires { ⌜ RecordedFits (recorder.answerOf answer) ⌝ }
+    ensures { λ r. ⌜ r ≡ packRecorded (recorder.answerOf answer) ⌝ }
 {
     match answer {
         Recorded::Count(used) => count(used),
@@ -50,7 +51,7 @@ fn summary(head: Head) -> u64
 
 // What a log comes to.
 pub(crate) fn pack_reading(answer: Reading) -> u64
-    ensures { λ r. ⌜ r ≡ packSummary (log.meaningOf answer) ⌝ }
+    ensures { λ r. ⌜ r ≡ packSummary (reader.meaningOf answer) ⌝ }
 {
     match answer {
         Reading::Accepted(head) => summary(head),

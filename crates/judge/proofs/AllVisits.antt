@@ -10,11 +10,11 @@ use lib.Seq.{slice-empty}
 use Rattle.model.specs.Cxl0.{Topology, isLocation, Event}
 use Rattle.model.specs.Meaning.{topologyOf}
 use Rattle.model.specs.declared.Topology as topology
-use Rattle.search.specs.Scratch.{STEPS, eventsIn}
-use Rattle.search.specs.Access.{OnlyIn}
-use Rattle.search.proofs.Frames.{only-none, only-then, getD-above}
-use Rattle.search.proofs.Events.{events-length}
-use Rattle.judge.specs.Linking.{LOG, HEADS, Linked}
+use Rattle.walking.specs.Scratch.{STEPS, eventsIn}
+use Rattle.walking.specs.Access.{OnlyIn}
+use Rattle.walking.proofs.Frames.{only-none, only-then, getD-above}
+use Rattle.walking.proofs.Events.{events-length}
+use Rattle.events.specs.Linking.{LOG, HEADS, Linked}
 use Rattle.judge.specs.Visiting.{logged, Loaded, Visited, Visitable, Visits}
 use Rattle.judge.specs.declared.visiting.Progress.{Progress}
 use Rattle.judge.proofs.Gathering.{gathered-none}
@@ -52,6 +52,7 @@ module _ {t : topology.Topology} {n : ℕ} {w : List ℕ} (loaded : Loaded t n w
         kept = only-none 0 LOG w;
         visited = record {
           most = omega (arith, size);
+          few = omega arith;
           runs = λ y h. absurd (omega arith);
           ends = λ h. absurd (omega (arith, size));
           steps = λ e. (rw (slice-empty STEPS w), rw (slice-empty STEPS w) (gathered-none (topologyOf t) (logged n w)));

@@ -14,7 +14,7 @@ use Rattle.model.specs.OneLocation.{eventAt}
 use Rattle.model.proofs.Tests.{by-test, not→false, ne→test}
 use Rattle.model.proofs.Sums.{sum, sum-zero, sum-le, sum-at}
 use Rattle.model.proofs.Potential.{gain}
-use Rattle.search.specs.Allowance.{allowance}
+use Rattle.walking.specs.Allowance.{allowance}
 use Rattle.search.proofs.Allowance.{allowance-cons}
 
 -- An event is at one location, or it adds nothing.

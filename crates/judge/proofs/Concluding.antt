@@ -4,10 +4,10 @@ use native.Mathlib.Omega.{arith}
 use native.Mathlib.Nat.{le-of-suc-le-suc}
 use mathlib.Core.Path.{_≡_}
 use mathlib.Core.Bool.{_&&_}
-use mathlib.Core.List.{List, map}
+use mathlib.Core.List.{List}
 use lib.Dec.{T, leb, le→leb}
 use lib.ListN.{length, take, drop, length-map}
-use lib.Seq.{length-slice, take-all}
+use lib.Seq.{length-slice}
 use Rattle.model.specs.Cxl0.{Topology, WellFormed, Event, Run, HasRun, FirstImpossible}
 use Rattle.model.specs.Schedule.{Step, weave, inOrder}
 use Rattle.model.specs.Meaning.{topologyOf}
@@ -20,19 +20,19 @@ use Rattle.model.proofs.Prefixes.{has-run-fewer}
 use Rattle.verdict_file.specs.Files.{stepsMost}
 use Rattle.verdict_file.specs.Writing.{stepsFit, writable}
 use Rattle.verdict_file.specs.Schedules.{everyStepFits, scheduleFits}
-use Rattle.search.specs.Scratch.{STEPS, SORTED}
+use Rattle.walking.specs.Scratch.{STEPS, SORTED}
+use Rattle.walking.specs.Scratch.{wordsAt, stepsAt}
+use Rattle.walking.proofs.Events.{events-length}
 use Rattle.search.specs.Ordering.{ordered}
-use Rattle.search.specs.SortedWords.{wordsAt, stepsAt, Listed, Ordered}
-use Rattle.search.proofs.Events.{events-length}
 use Rattle.search.proofs.Ordering.{ordered-run, ordered-inOrder}
-use Rattle.search.proofs.SortedWords.{listed-steps, ordered-steps}
+use Rattle.sorting.specs.SortedWords.{Listed, Ordered}
+use Rattle.sorting.proofs.SortedWords.{listed-steps, ordered-steps}
+use Rattle.events.specs.Linking.{LOG}
 use Rattle.judge.specs.Gathering.{Gathered}
-use Rattle.judge.specs.Linking.{LOG}
 use Rattle.judge.specs.Parts.{Arranged}
 use Rattle.judge.specs.Visiting.{logged, Loaded, Visits}
 use Rattle.judge.specs.declared.visiting.Progress.{Progress}
 use Rattle.judge.proofs.Fitting.{run-fits, words-fit}
-use Rattle.judge.proofs.Gathering.{gathered-few}
 use Rattle.judge.proofs.NamedEvents.{named-take}
 
 -- If the first m events have a run and one more have none, that one is the first impossible.
@@ -92,23 +92,13 @@ module _ {t : topology.Topology} {n : ℕ} {w : List ℕ} (loaded : Loaded t n w
     gathered : Gathered sys es (t .locations) (stepsAt STEPS (p .steps) w')
     gathered = v .visited .steps everything .1
 
-    pub few-steps : p .steps ≤ 256
-    few-steps =
-        omega (
-          arith,
-          gathered-few sys es gathered,
-          loaded .linked .few,
-          counted,
-          length-map (wordsAt STEPS (p .steps) w') stepOfWord,
-        )
-
     room : 4096 ≤ length w'
     room = omega (arith, v .kept .sized, loaded .linked .room)
 
     -- It can be ordered.
     pub steps-listed : Listed (p .steps) n w'
     steps-listed =
-        listed-steps room few-steps (omega (arith, size, loaded .linked .few))
+        listed-steps room (v .visited .few) (omega (arith, size, loaded .linked .few))
         (λ q i. rw size at (gathered .before q i))
 
     module _ {out : List ℕ} (sorted : Ordered (p .steps) n w' out) where
@@ -126,7 +116,7 @@ module _ {t : topology.Topology} {n : ℕ} {w : List ℕ} (loaded : Loaded t n w
 
       words-counted : length (wordsAt SORTED (p .steps) out) ≡ p .steps
       words-counted =
-          let few = few-steps in
+          let few = v .visited .few in
           let inside : SORTED + p .steps ≤ length out = omega (arith, sorted .sized, room) in
           omega (arith, length-slice SORTED (SORTED + p .steps) out inside)
 
@@ -137,7 +127,7 @@ module _ {t : topology.Topology} {n : ℕ} {w : List ℕ} (loaded : Loaded t n w
       pub arranged : Arranged sys es (p .steps) out
       unfolding scheduleFits writable
       arranged =
-          let most = few-steps in
+          let most = v .visited .few in
           let words = wordsAt SORTED (p .steps) out in
           let short = leb (length words) stepsMost in
           let few = leb (length steps) stepsMost in

@@ -11,8 +11,8 @@ use Rattle.model.specs.Cxl0.{Event, LStore, RStore, MStore, Load, LFlush, RFlus
 use Rattle.model.proofs.Tests.{and-l, and-r}
 use Rattle.model.proofs.Expand.{machine-bounds}
 use Rattle.masks.specs.Sets.{OneToSix}
-use Rattle.search.specs.Scratch.{eventIn, eventsFrom, eventsIn}
-use Rattle.search.specs.Sites.{machineOf}
+use Rattle.rows.specs.Sites.{machineOf}
+use Rattle.walking.specs.Scratch.{eventIn, eventsFrom, eventsIn}
 
 module _ (sys : Topology) (few : sys .machines ≤ 6) where
   by : (i : Machine) → T (isMachine sys i) → OneToSix i

@@ -1,44 +1,45 @@
--- Extending the list of steps: the words that the walk stores come behind those of the list, and then their
--- counts of picked events become places of the log.
+-- Extending the list of steps: the words of a schedule stand behind those of the list, and then their counts
+-- of picked events become places of the log.
 use Prim.Native.Nat.{ℕ, zero, suc, _+_, _-_, _*_, _≤_, _<_}
-use native.Mathlib.Nat.{le-of-suc-le-suc, not-suc-le-zero, le-refl}
+use native.Mathlib.Nat.{le-of-suc-le-suc, not-suc-le-zero}
 use native.Mathlib.Omega.{arith}
 use mathlib.Core.Path.{_≡_, refl, sym, ap, ap₂, _∙_}
 use mathlib.Core.List.{List, [], _∷_, _++_, map, List·Memᴰ, List·Memᴰ·head, List·Memᴰ·tail}
-use lib.ListN.{length, getD, take, drop, length-append, length-map}
-use lib.Seq.{slice, sets-eq, take-add, drop-at, drop-append-le, length-take-le, length-slice}
+use lib.ListN.{length, getD, take, drop, length-map}
+use lib.Seq.{slice, take-add, drop-at, drop-append-le, length-take-le, length-slice}
 use lib.Seq.{getD-take, getD-drop}
 use Rattle.model.specs.Schedule.{Step}
 use Rattle.model.specs.Words.{stepOfWord}
-use Rattle.search.specs.declared.Site.{Site}
-use Rattle.search.specs.Scratch.{EVENTS, ROWS, STEPS}
-use Rattle.search.specs.Access.{MOST, OnlyIn}
-use Rattle.search.specs.Stored.{Stored}
-use Rattle.search.specs.SortedWords.{countOf}
-use Rattle.search.specs.Walks.{Walkable, Walked}
-use Rattle.search.proofs.Frames.{only-then, only-wider, getD-below}
-use Rattle.search.proofs.Events.{events-length}
-use Rattle.search.proofs.Stored.{stored-length, stored-slice, stored-words}
-use Rattle.judge.specs.Thinning.{retimed}
-use Rattle.judge.specs.Linking.{placesFrom, placesIn}
-use Rattle.judge.specs.Retiming.{wordsBetween, Retimable, Retimed}
-use Rattle.judge.specs.Visiting.{Extended}
-use Rattle.judge.proofs.EarlySteps.{early-few}
+use Rattle.rows.specs.declared.Site.{Site}
+use Rattle.walking.specs.Scratch.{EVENTS, ROWS, STEPS, eventsIn}
+use Rattle.walking.specs.Access.{MOST, OnlyIn}
+use Rattle.walking.specs.Scratch.{countOf, wordsAt}
+use Rattle.walking.specs.Walks.{Schedules}
+use Rattle.walking.proofs.Frames.{only-then, only-wider, getD-below}
+use Rattle.walking.proofs.Events.{events-length}
+use Rattle.search.specs.declared.explaining.Found.{Found}
+use Rattle.search.specs.Paths.{Kept, Explainable, Scheduled, Explained}
+use Rattle.events.specs.Thinning.{retimed}
+use Rattle.events.specs.Linking.{LOG, placesFrom, placesIn}
+use Rattle.events.specs.Retiming.{wordsBetween, Retimable, Retimed}
+use Rattle.judge.proofs.Allowances.{allowance-few}
+
+-- The list of `more` words is that of `count` words and after it a schedule for the k events, retimed by
+-- their places.
+pub record Extended (s : Site) (k count : ℕ) (w : List ℕ) (more : ℕ) (w' : List ℕ) : Type 0 where
+  pub frame : OnlyIn ROWS LOG w w'
+  pub words : List ℕ
+  pub counted : more ≡ count + length words
+  pub list : wordsAt STEPS more w' ≡ wordsAt STEPS count w ++ words
+  pub steps : List Step
+  pub schedules : Schedules s (eventsIn w k) steps
+  pub timed : map stepOfWord words ≡ retimed (placesIn w k) steps
 
 -- ---- words of the area
 
--- Words stored where there is room change nothing else.
-stored-frame : {w : List ℕ} {i : ℕ} {vs w' : List ℕ} {k : ℕ} → Stored w i vs w' k → k ≤ length w
-    → OnlyIn i k w w'
-stored-frame {w} {i} {vs} {w'} {k} p h =
-    let front = take i w ++ vs in
-    let long = length-take-le i w (omega (arith, p .here)) in
-    let size : length front ≡ k = omega (arith, length-append (take i w) vs, long, p .here) in
-    record {
-      sized = stored-length p;
-      below = stored-slice p 0 i (le-refl i);
-      above = rw (p .words, sets-eq vs w i (omega (arith, p .here)), drop-at front _ k size, p .here);
-    }
+-- What the search keeps, as a frame.
+pub kept-only : {base : ℕ} {w w' : List ℕ} → Kept base w w' → OnlyIn ROWS LOG w w'
+kept-only p = record { sized = p .sized; below = p .events; above = p .above }
 
 -- A part of the area in two.
 slice-split : (from middle to : ℕ) (w : List ℕ) → from ≤ middle → middle ≤ to → to ≤ length w
@@ -67,7 +68,7 @@ places-from p j (suc k) h =
     rw (getD-below p (EVENTS + 2 * j) (omega arith), places-from p (suc j) k (omega arith))
 
 -- Equal words of the events give equal places.
-pub places-same : {to : ℕ} {w w' : List ℕ} → OnlyIn ROWS to w w' → (k : ℕ) → k ≤ MOST
+places-same : {to : ℕ} {w w' : List ℕ} → OnlyIn ROWS to w w' → (k : ℕ) → k ≤ MOST
     → placesIn w' k ≡ placesIn w k
 places-same p k h = places-from p 0 k (omega arith)
 
@@ -80,38 +81,37 @@ counts-below k (v ∷ ws) h zero l = h (stepOfWord v) (List·Memᴰ·head refl)
 counts-below k (v ∷ ws) h (suc j) l =
     counts-below k ws (λ p i. h p (List·Memᴰ·tail i)) j (le-of-suc-le-suc l)
 
--- ---- the walk, and the places
+-- ---- the schedule, and the places
 
-module _ {s : Site} {k count more : ℕ} {w w₁ : List ℕ} (can : Walkable s k count w)
-    (walked : Walked s k count w more w₁) where
+module _ {s : Site} {k count : ℕ} {found : Found} {w w₁ : List ℕ} (can : Explainable s k count w)
+    (few : k ≤ 128) (done : Explained s k count w found w₁) (all : found .events ≡ k) where
+  abbrev more : ℕ
+  more = found .steps
+
+  new : Scheduled s k count w more w₁
+  new = done .steps all
+
   abbrev words : List ℕ
-  words = walked .words
-
-  here : more ≡ count + length words
-  here = omega (arith, walked .stored .here)
+  words = new .words
 
   short : more ≤ 512
   short =
-      let most : k ≤ suc 128 = omega (arith, can .ready .few) in
-      let few = early-few w k 128 most (can .placed) (walked .schedules) in
-      omega (arith, here, can .few, length-map words stepOfWord, few)
-
-  sized : length w₁ ≡ length w
-  sized = stored-length (walked .stored)
-
-  frame-walked : OnlyIn (STEPS + count) (STEPS + more) w w₁
-  frame-walked = stored-frame (walked .stored) (omega (arith, short, can .ready .room))
+      let most = allowance-few (s .location .0) (eventsIn w k) in
+      let size = length-map words stepOfWord in
+      omega (arith, new .counted, can .short, size, new .schedules .few, most, events-length w k)
 
   stored : wordsBetween count more w₁ ≡ words
-  stored = stored-words (walked .stored) (omega (arith, short, can .ready .room))
+  stored =
+      let end : STEPS + more ≡ STEPS + count + length words = omega (arith, new .counted) in
+      rw end (new .list)
 
-  -- After the walk the words of its steps can be retimed.
-  pub walked-retimable : Retimable k count more w₁
-  walked-retimable =
+  -- The words of the schedule can be retimed.
+  pub found-retimable : Retimable k count more w₁
+  found-retimable =
       record {
-        room = omega (arith, sized, can .ready .room);
-        few = can .ready .few;
-        order = omega (arith, here);
+        room = omega (arith, done .kept .sized, can .room);
+        few = can .few;
+        order = omega (arith, new .counted);
         short = short;
         counts = λ j g l.
             let i = j - count in
@@ -120,24 +120,25 @@ module _ {s : Site} {k count more : ℕ} {w w₁ : List ℕ} (can : Walkable s k
             rw (← stored, ← at) (getD-slice (STEPS + count) (STEPS + more) w₁ i (omega arith)) in
             rw (← word)
             (counts-below k words
-            (λ p m. omega (arith, walked .schedules .early p m, events-length w k))
-            i (omega (arith, here)));
+            (λ p m. omega (arith, new .schedules .early p m, events-length w k))
+            i (omega (arith, new .counted)));
       }
 
   -- With the places of the log, the list is extended.
-  pub walked-extended : {w₂ : List ℕ} → Retimed k count more w₁ w₂ → Extended s k count w more w₂
-  walked-extended {w₂} done =
-      let all = only-then frame-walked (done .frame) in
-      let room : STEPS + more ≤ length w₂ = omega (arith, short, all .sized, can .ready .room) in
-      let late : OnlyIn ROWS (STEPS + more) w w₁ = only-wider frame-walked (omega arith) (omega arith) in
+  pub found-extended : {w₂ : List ℕ} → Retimed k count more w₁ w₂ → Extended s k count w more w₂
+  found-extended {w₂} timed =
+      let kept = kept-only (done .kept) in
+      let order : STEPS + count ≤ STEPS + more = omega (arith, new .counted) in
+      let sized = timed .frame .sized ∙ kept .sized in
+      let room : STEPS + more ≤ length w₂ = omega (arith, short, sized, can .room) in
       record {
-        frame = only-wider all (omega arith) (omega (arith, short));
+        frame = only-then kept (only-wider (timed .frame) (omega arith) (omega (arith, short)));
         words = wordsBetween count more w₂;
-        counted = omega (arith, here, length-slice (STEPS + count) (STEPS + more) w₂ room);
-        list = slice-split STEPS (STEPS + count) (STEPS + more) w₂ (omega arith) (omega (arith, here)) room
-            ∙ ap (λ (ws : List ℕ). drop STEPS ws ++ wordsBetween count more w₂) (all .below);
+        counted = omega (arith, new .counted, length-slice (STEPS + count) (STEPS + more) w₂ room);
+        list = slice-split STEPS (STEPS + count) (STEPS + more) w₂ (omega arith) order room
+            ∙ ap (λ (ws : List ℕ). ws ++ wordsBetween count more w₂)
+            (ap (drop STEPS) (timed .frame .below) ∙ done .kept .list);
         steps = map stepOfWord words;
-        schedules = walked .schedules;
-        timed = done .steps
-            ∙ ap₂ retimed (places-same late k (can .ready .few)) (ap (map stepOfWord) stored);
+        schedules = new .schedules;
+        timed = timed .steps ∙ ap₂ retimed (places-same kept k (can .few)) (ap (map stepOfWord) stored);
       }

@@ -15,10 +15,10 @@ use Rattle.model.specs.Schedule.{Step, weave, inOrder}
 use Rattle.model.specs.OneLocation.{startAt, runsAt}
 use Rattle.model.proofs.Sums.{sum}
 use Rattle.model.proofs.Weaving.{inOrder-cons}
-use Rattle.search.specs.declared.Site.{Site}
+use Rattle.rows.specs.declared.Site.{Site}
+use Rattle.walking.specs.Walks.{Placed, Schedules}
 use Rattle.search.specs.Rising.{select}
 use Rattle.search.specs.Ordering.{atLocation}
-use Rattle.search.specs.Walks.{Placed, Schedules}
 use Rattle.search.proofs.Rising.{select-append}
 use Rattle.judge.specs.Gathering.{Gathered}
 use Rattle.judge.proofs.Allowances.{sum-allowances}

@@ -6,8 +6,8 @@ use mathlib.Core.Bool.{Bool, true, false, cond}
 use mathlib.Core.List.{List}
 use lib.ListN.{length, length-map}
 use Rattle.model.specs.Words.{stepOfWord}
-use Rattle.log.specs.Refusals.{numberOf}
-use Rattle.log.specs.declared.Refusal.{Refusal}
+use Rattle.fields.specs.Refusals.{numberOf}
+use Rattle.fields.specs.declared.Refusal.{Refusal}
 use Rattle.verdict_file.specs.Files.{Verdict, impossible, fileOf}
 use Rattle.verdict_file.specs.Answers as written
 use Rattle.verdict_file.specs.Answers.{writtenOf}

@@ -10,9 +10,9 @@ use lib.ListN.{length, getD, take}
 use Rattle.model.specs.Cxl0.{Location, Topology, Event, event, named, allNamed, count}
 use Rattle.model.proofs.Tests.{and-r}
 use Rattle.model.proofs.Merge.{and-map}
-use Rattle.search.specs.Allowance.{allowance}
+use Rattle.walking.specs.Allowance.{allowance}
 use Rattle.search.proofs.Allowance.{allowance-cons}
-use Rattle.judge.specs.Thinning.{noneOwn, Thins, rest, keep, skip, Leads, begin, before}
+use Rattle.events.specs.Thinning.{noneOwn, Thins, rest, keep, skip, Leads, begin, before}
 
 -- ---- how many
 

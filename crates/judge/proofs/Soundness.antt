@@ -10,8 +10,8 @@ use lib.Seq.{take-nil}
 use Rattle.model.specs.Cxl0.{Topology, Event, FirstImpossible}
 use Rattle.verdict_file.specs.Files.{Verdict, impossible}
 use Rattle.verdict_file.specs.Writing.{allowedBy, writable, room, output}
-use Rattle.search.specs.Scratch.{SORTED}
-use Rattle.search.specs.SortedWords.{wordsAt}
+use Rattle.walking.specs.Scratch.{SORTED}
+use Rattle.walking.specs.Scratch.{wordsAt}
 use Rattle.judge.specs.Parts.{Arranged}
 use Rattle.judge.specs.Settling.{Sound, Issued, Settled}
 use Rattle.judge.specs.declared.Judged.{Judged}

@@ -1,15 +1,15 @@
 -- One location more: what its search says of the log's events, from the events that were picked for it.
-use Prim.Native.Nat.{ℕ, zero, suc, _+_, _*_, _/_, _%_, _≤_, _<_}
+use Prim.Native.Nat.{ℕ, suc, _+_, _*_, _/_, _%_, _≤_, _<_}
 use native.Mathlib.Nat.{le-refl, le-of-suc-le-suc, eq-or-lt-of-le}
 use native.Mathlib.Omega.{arith}
 use mathlib.Core.Path.{_≡_, refl, sym, ap, _∙_, subst}
 use mathlib.Core.Logic.{_⊎_, ⊎-elim}
 use mathlib.Core.Bool.{not}
-use mathlib.Core.List.{List, [], _∷_, _++_, map, map-append, append-nil, List·Memᴰ, List·Memᴰ·not-nil}
+use mathlib.Core.List.{List, [], _++_, map, map-append, append-nil, List·Memᴰ·not-nil}
 use lib.Dec.{T}
 use lib.ListN.{length, getD, take, drop, length-take, length-append, length-map}
 use lib.Seq.{take-all, take-take}
-use Rattle.model.specs.Cxl0.{Location, Topology, isLocation, owner, initial, WellFormed, Event, event, allNamed}
+use Rattle.model.specs.Cxl0.{Location, Topology, owner, initial, WellFormed, Event, event, allNamed}
 use Rattle.model.specs.Schedule.{Step, weave, weaveFrom, steps, inOrder}
 use Rattle.model.specs.OneLocation.{startAt, HasRunAt, runsAt}
 use Rattle.model.specs.Meaning.{topologyOf}
@@ -17,28 +17,30 @@ use Rattle.model.specs.Words.{stepOfWord}
 use Rattle.model.specs.declared.Topology as topology
 use Rattle.model.proofs.Gaps.{has-run-nil}
 use Rattle.model.proofs.Limits.{within, listed-below}
-use Rattle.search.specs.declared.Site.{Site}
-use Rattle.search.specs.Scratch.{EVENTS, ROWS, STEPS, eventsFrom, eventsIn}
-use Rattle.search.specs.Sites.{Describes}
-use Rattle.search.specs.Access.{WORDS, MOST, OnlyIn}
-use Rattle.search.specs.SortedWords.{wordsAt, stepsAt}
-use Rattle.search.specs.Allowance.{allowance}
-use Rattle.search.specs.Walks.{Placed, Walkable, Schedules}
+use Rattle.rows.specs.declared.Site.{Site}
+use Rattle.rows.specs.Sites.{Describes}
+use Rattle.walking.specs.Scratch.{EVENTS, ROWS, STEPS, eventsFrom, eventsIn}
+use Rattle.walking.specs.Access.{WORDS, OnlyIn}
+use Rattle.walking.specs.Scratch.{wordsAt, stepsAt}
+use Rattle.walking.specs.Walks.{Placed, Schedules}
+use Rattle.walking.proofs.Frames.{only-then, only-wider, getD-below}
+use Rattle.walking.proofs.Events.{events-take, events-length}
+use Rattle.search.specs.declared.explaining.Found.{Found}
+use Rattle.search.specs.Paths.{Explainable, Explained}
 use Rattle.search.proofs.Prefixes.{has-run-at-prefix}
-use Rattle.search.proofs.Frames.{only-then, only-wider, getD-below}
-use Rattle.search.proofs.Events.{events-take, events-length, events-same}
+use Rattle.events.specs.Thinning.{Leads, retimed}
+use Rattle.events.specs.Linking.{LOG, placeIn, placesIn, Linked, Picked}
+use Rattle.events.specs.Retiming.{Retimable, Retimed}
+use Rattle.events.proofs.Retimings.{places-at}
 use Rattle.judge.specs.Gathering.{Gathered}
-use Rattle.judge.specs.Thinning.{Leads, retimed}
-use Rattle.judge.specs.Linking.{LOG, placeIn, placesFrom, placesIn, Linked, Picked}
-use Rattle.judge.specs.Visiting.{logged, Loaded, Prepared, Searched, Extended, Visited, Visitable, Visits}
+use Rattle.judge.specs.Visiting.{logged, Visitable, Visits}
 use Rattle.judge.specs.declared.visiting.Progress.{Progress}
 use Rattle.judge.proofs.Described.{described}
 use Rattle.judge.proofs.NamedEvents.{named-take}
 use Rattle.judge.proofs.EventMachines.{machines}
 use Rattle.judge.proofs.Gathering.{gathered-few, gathered-more}
 use Rattle.judge.proofs.Lists.{list-kept}
-use Rattle.judge.proofs.Retimings.{places-at}
-use Rattle.judge.proofs.Extending.{places-same}
+use Rattle.judge.proofs.Extending.{Extended, kept-only, found-retimable, found-extended}
 use Rattle.judge.proofs.Thinning.{leads-run}
 use Rattle.judge.proofs.KeptEvents.{leads-take, leads-named}
 use Rattle.judge.proofs.RetimedSchedules.{leads-schedules}
@@ -108,7 +110,7 @@ module _ {t : topology.Topology} {n x : ℕ} {p : Progress} {w : List ℕ} (can 
     leads : Leads x 0 (take m es) (eventsIn w₁ k) (placesIn w₁ k)
     leads = picked .leads es (can .loaded .linked) (can .visited .most)
 
-    few-picked : k ≤ MOST
+    few-picked : k ≤ 128
     few-picked = omega (arith, picked .few, can .visited .most, size, few)
 
     kept-named : T (allNamed sys (map event (eventsIn w₁ k)))
@@ -117,28 +119,17 @@ module _ {t : topology.Topology} {n x : ℕ} {p : Progress} {w : List ℕ} (can 
     frame₁ : OnlyIn 0 STEPS w w₁
     frame₁ = only-wider (picked .frame) (omega arith) (omega arith)
 
-    -- The picked events can be searched at a site of the system.
-    pub pick-prepared : {s : Site} → Describes sys s → Prepared s k w₁
-    pick-prepared d =
-        record {
-          room = omega (arith, room, picked .frame .sized);
-          few = few-picked;
-          system = sys;
-          describes = d;
-          machines = machines sys few-machines w₁ k kept-named;
-        }
-
     -- The list of steps is as it was.
-    list-same : {w₂ : List ℕ} → OnlyIn 0 STEPS w w₂ → wordsAt STEPS (p .steps) w₂ ≡ wordsAt STEPS (p .steps) w
-    list-same frame = list-kept frame (omega (arith, room)) (p .steps)
+    list-same : wordsAt STEPS (p .steps) w₁ ≡ wordsAt STEPS (p .steps) w
+    list-same = list-kept frame₁ (omega (arith, room)) (p .steps)
 
-    to-log : {w₂ : List ℕ} → OnlyIn 0 STEPS w w₂ → OnlyIn 0 LOG w w₂
-    to-log frame = only-wider frame (omega arith) (omega arith)
+    -- What keeps the log after the picking keeps it from the beginning.
+    to-log : {w₂ : List ℕ} → OnlyIn EVENTS LOG w₁ w₂ → OnlyIn 0 LOG w w₂
+    to-log frame = only-then (only-wider frame₁ (omega arith) (omega arith)) frame
 
     all-taken : m ≡ length es → take m es ≡ es
     all-taken e = take-all m es (omega arith)
 
-    -- A schedule of the picked events, retimed, is one of the log's events, if these are all.
     module _ {s : Site} (here : s .location .0 ≡ x) (d : Describes sys s) where
       placed-by : {l : List Event} → T (allNamed sys (map event l)) → Placed sys s l
       placed-by names =
@@ -147,6 +138,19 @@ module _ {t : topology.Topology} {n x : ℕ} {p : Progress} {w : List ℕ} (can 
       placed : Placed sys s es
       placed = placed-by (can .loaded .named)
 
+      -- The picked events can be searched.
+      pub visit-explainable : Explainable s k (p .steps) w₁
+      visit-explainable =
+          record {
+            room = omega (arith, room, picked .frame .sized);
+            few = omega (arith, few-picked);
+            short = can .visited .few;
+            machines = machines sys few-machines w₁ k kept-named;
+            system = sys;
+            placed = placed-by kept-named;
+          }
+
+      -- A schedule of the picked events, retimed, is one of the log's events, if these are all.
       whole : m ≡ length es → {qs : List Step} → Schedules s (eventsIn w₁ k) qs
           → Schedules s es (retimed (placesIn w₁ k) qs)
       whole e sch =
@@ -176,42 +180,45 @@ module _ {t : topology.Topology} {n x : ℕ} {p : Progress} {w : List ℕ} (can 
         let none : eventsIn w₁ k ≡ [] = rw e in
         let run : HasRunAt sys x (eventsIn w₁ k) (startAt sys x) = rw none (has-run-nil sys x (startAt sys x)) in
         record {
-          kept = to-log frame₁;
+          kept = only-wider frame₁ (omega arith) (omega arith);
           visited = record {
             most = can .visited .most;
+            few = can .visited .few;
             runs = runs-more m (le-refl m) (leads-run sys leads .1 run);
             ends = can .visited .ends;
             steps = λ all.
                 let old = can .visited .steps all in
-                let words = list-same frame₁ in
                 let same : stepsAt STEPS (p .steps) w₁ ≡ stepsAt STEPS (p .steps) w ++ [] =
-                ap (map stepOfWord) words ∙ sym (append-nil (stepsAt STEPS (p .steps) w)) in
+                ap (map stepOfWord) list-same ∙ sym (append-nil (stepsAt STEPS (p .steps) w)) in
                 let sch : Schedules site (eventsIn w₁ k) [] = rw none (schedules-none site) in
-                (rw words (old .0), rw same (gathered-here refl d all (old .1) sch));
+                (rw list-same (old .0), rw same (gathered-here refl d all (old .1) sch));
           };
         }
 
     -- ---- events were picked, and searched
 
-    module _ {s : Site} (here : s .location .0 ≡ x) (d : Describes sys s) {good : ℕ} {w₂ : List ℕ}
-        (found : Searched s k w₁ good w₂) where
-      frame₂ : OnlyIn 0 STEPS w w₂
-      frame₂ = only-then frame₁ (only-wider (found .frame) (omega arith) (omega arith))
+    module _ {s : Site} (here : s .location .0 ≡ x) (d : Describes sys s) {found : Found} {w₂ : List ℕ}
+        (done : Explained s k (p .steps) w₁ found w₂) where
+      abbrev good : ℕ
+      good = found .events
+
+      frame : OnlyIn ROWS LOG w₁ w₂
+      frame = kept-only (done .kept)
+
+      kept₂ : OnlyIn 0 LOG w w₂
+      kept₂ = to-log (only-wider frame (omega arith) (omega arith))
 
       abbrev RunsHere : List Event → Type 0
       RunsHere l = HasRunAt sys x l (startAt sys x)
 
       run-good : RunsHere (take good (eventsIn w₁ k))
-      run-good = rw (events-take w₁ good k (found .most)) (rw here at (found .runs sys d))
+      run-good = rw (events-take w₁ good k (done .most)) (rw here at (done .runs sys d))
 
       -- The place of the first event that has no run.
-      pub visit-place : good < k → placeIn EVENTS w₂ good ≡ getD (placesIn w₁ k) good 0
+      visit-place : good < k → placeIn EVENTS w₂ good ≡ getD (placesIn w₁ k) good 0
       visit-place l =
-          let below = getD-below (found .frame) (EVENTS + 2 * good) (omega (arith, few-picked)) in
+          let below = getD-below frame (EVENTS + 2 * good) (omega (arith, few-picked)) in
           ap (λ (v : ℕ). v / 16777216 % 256) below ∙ sym (places-at w₁ k good l)
-
-      pub visit-placed : good < k → (WORDS ≤ length w₂) × (good < MOST)
-      visit-placed l = (omega (arith, room, frame₂ .sized), omega (arith, few-picked))
 
       -- Not all of them have a run.
       pub visit-ends : good < k → (e : ℕ) → e ≡ placeIn EVENTS w₂ good
@@ -224,11 +231,12 @@ module _ {t : topology.Topology} {n x : ℕ} {p : Progress} {w : List ℕ} (can 
           rw (← take-take e m es (omega arith)) (leads-run sys (cut .1) .1 run-good) in
           let none : ¬ RunsHere (take (suc e) es) = λ r.
           let kept = leads-run sys (cut .2) .0 (rw (take-take (suc e) m es below) r) in
-          found .ends sys d l (rw here (rw (events-take w₁ (suc good) k l) at kept)) in
+          done .ends l sys d (rw here (rw (events-take w₁ (suc good) k l) at kept)) in
           record {
-            kept = to-log frame₂;
+            kept = kept₂;
             visited = record {
               most = omega (arith, can .visited .most);
+              few = can .visited .few;
               runs = runs-more e (omega arith) runs;
               ends = λ h. (x, can .listed, none);
               steps = λ all. absurd (omega (arith, can .visited .most));
@@ -246,60 +254,61 @@ module _ {t : topology.Topology} {n x : ℕ} {p : Progress} {w : List ℕ} (can 
         pub visit-same : m < n → Visits t n (suc x) w p w₂
         visit-same l =
             record {
-              kept = to-log frame₂;
+              kept = kept₂;
               visited = record {
                 most = can .visited .most;
+                few = can .visited .few;
                 runs = runs-more m (le-refl m) run-all;
                 ends = can .visited .ends;
                 steps = λ all. absurd (omega (arith, size));
               };
             }
 
-        -- All events have a run so far: the schedule can be looked for.
+        -- All events have a run so far: the schedule gets the places of the log.
         module _ (all : n ≤ m) where
           everything : m ≡ length es
           everything = omega (arith, can .visited .most, size)
 
-          old : Gathered sys es x (stepsAt STEPS (p .steps) w)
-          old = can .visited .steps everything .1
+          pub visit-retimable : Retimable k (p .steps) (found .steps) w₂
+          visit-retimable = found-retimable (visit-explainable here d) few-picked done good-all
 
-          pub visit-walkable : Walkable s k (p .steps) w₂
-          visit-walkable =
-              let ready = found .ready good-all in
-              let counted = can .visited .steps everything .0 in
-              let words = length-map (wordsAt STEPS (p .steps) w) stepOfWord in
-              let same = events-same (found .frame) k few-picked in
-              let names : T (allNamed sys (map event (eventsIn w₂ k))) = rw same kept-named in
-              record {
-                few = omega (arith, counted, gathered-few sys es old, size, few, words);
-                ready = ready .0;
-                rows = ready .1;
-                system = sys;
-                placed = placed-by here d names;
-                runs = rw (same, ← good-all) (found .runs sys d);
-              }
+          module _ {w₃ : List ℕ} (timed : Retimed k (p .steps) (found .steps) w₂ w₃) where
+            abbrev more : ℕ
+            more = found .steps
 
-          pub visit-extends : {more : ℕ} {w₃ : List ℕ} → Extended s k (p .steps) w₂ more w₃
-              → Visits t n (suc x) w (record { events = m; steps = more }) w₃
-          visit-extends {more} {w₃} new =
-              let before = wordsAt STEPS (p .steps) w in
-              let words : wordsAt STEPS more w₃ ≡ before ++ new .words =
-              new .list ∙ ap (λ (l : List ℕ). l ++ new .words) (list-same frame₂) in
-              let events = events-same (found .frame) k few-picked in
-              let places : placesIn w₂ k ≡ placesIn w₁ k = places-same (found .frame) k few-picked in
-              let timed : stepsAt STEPS more w₃ ≡ stepsAt STEPS (p .steps) w ++ retimed (placesIn w₁ k) (new .steps) =
-              ap (map stepOfWord) words ∙ map-append stepOfWord before (new .words)
-              ∙ ap (_++_ (stepsAt STEPS (p .steps) w)) (rw places at (new .timed)) in
-              let counted = can .visited .steps everything .0 in
-              record {
-                kept = only-then (to-log frame₂) (only-wider (new .frame) (omega arith) (omega arith));
-                visited = record {
-                  most = can .visited .most;
-                  runs = runs-more m (le-refl m) run-all;
-                  ends = can .visited .ends;
-                  steps = λ e. (
-                    rw words (omega (arith, length-append before (new .words), counted, new .counted)),
-                    rw timed (gathered-here here d everything old (rw events at (new .schedules))),
-                  );
-                };
-              }
+            new : Extended s k (p .steps) w₁ more w₃
+            new = found-extended (visit-explainable here d) few-picked done good-all timed
+
+            abbrev before : List ℕ
+            before = wordsAt STEPS (p .steps) w
+
+            words : wordsAt STEPS more w₃ ≡ before ++ new .words
+            words = new .list ∙ ap (λ (l : List ℕ). l ++ new .words) list-same
+
+            counted : length (wordsAt STEPS more w₃) ≡ more
+            counted =
+                let old = can .visited .steps everything .0 in
+                rw words (omega (arith, length-append before (new .words), old, new .counted))
+
+            gathered : Gathered sys es (suc x) (stepsAt STEPS more w₃)
+            gathered =
+                let old = can .visited .steps everything .1 in
+                let added = retimed (placesIn w₁ k) (new .steps) in
+                let steps : stepsAt STEPS more w₃ ≡ stepsAt STEPS (p .steps) w ++ added =
+                ap (map stepOfWord) words ∙ map-append stepOfWord before (new .words)
+                ∙ ap (_++_ (stepsAt STEPS (p .steps) w)) (new .timed) in
+                rw steps (gathered-here here d everything old (new .schedules))
+
+            pub visit-extends : Visits t n (suc x) w (record { events = m; steps = more }) w₃
+            visit-extends =
+                let long = length-map (wordsAt STEPS more w₃) stepOfWord in
+                record {
+                  kept = to-log (only-wider (new .frame) (omega arith) (omega arith));
+                  visited = record {
+                    most = can .visited .most;
+                    few = omega (arith, gathered-few sys es gathered, size, few, counted, long);
+                    runs = runs-more m (le-refl m) run-all;
+                    ends = can .visited .ends;
+                    steps = λ e. (counted, gathered);
+                  };
+                }

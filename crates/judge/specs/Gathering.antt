@@ -7,8 +7,8 @@ use Rattle.model.specs.Cxl0.{Location, Topology, Event, silent, named}
 use Rattle.model.specs.Schedule.{Step, silentOf, weave, inOrder}
 use Rattle.model.specs.OneLocation.{startAt, runsAt}
 use Rattle.model.proofs.Sums.{sum}
+use Rattle.walking.specs.Allowance.{allowance}
 use Rattle.search.specs.Ordering.{atLocation}
-use Rattle.search.specs.Allowance.{allowance}
 
 -- The steps are schedules of the locations below x for the events.
 pub record Gathered (sys : Topology) (es : List Event) (x : ℕ) (ps : List Step) : Type 0 where

@@ -1,11 +1,6 @@
 pub mod Clearing
 pub mod Parts
 pub mod Gathering
-pub mod Thinning
-pub mod Linking
-pub mod Logging
-pub mod Picking
-pub mod Retiming
 pub mod Visiting
 pub mod Loading
 pub mod Judging

@@ -9,8 +9,8 @@ use Rattle.model.specs.Cxl0.{Topology, Event, Run}
 use Rattle.model.specs.Schedule.{weave}
 use Rattle.verdict_file.specs.Writing.{writable}
 use Rattle.verdict_file.specs.Schedules.{scheduleFits}
-use Rattle.search.specs.Scratch.{SORTED}
-use Rattle.search.specs.SortedWords.{wordsAt, stepsAt}
+use Rattle.walking.specs.Scratch.{SORTED}
+use Rattle.walking.specs.Scratch.{wordsAt, stepsAt}
 
 -- From SORTED on, the area has the words of a schedule that makes a run of the events.
 pub record Arranged (sys : Topology) (es : List Event) (count : ℕ) (w : List ℕ) : Type 0 where

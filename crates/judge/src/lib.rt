@@ -1,21 +1,18 @@
 // Is there a run, and which? `judge` finds a schedule that explains a log, or names the first impossible event, and
 // writes the verdict file. specs/Judging.antt says what it answers and leaves.
 mod clearing;
-mod logging;
-mod picking;
-mod retiming;
 mod settling;
 mod sites;
 mod visiting;
 
 use clearing::clear;
+use cursors::opening::open;
+use events::logging::decode_log;
+use events::logging::link;
+use fields::Refusal;
 use log::Head;
-use log::Reading;
-use log::Refusal;
-use log::opening::open;
-use log::reader::read;
-use logging::decode_log;
-use logging::link;
+use reader::Reading;
+use reader::read;
 use settling::settle;
 use verdict_file::filling::has_room;
 ghost use mathlib.Core.Path.{_≡_};

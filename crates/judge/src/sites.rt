@@ -1,12 +1,12 @@
 // What the search knows of a location, from the topology.
 use model::Location;
 use model::Topology;
-use search::Site;
+use rows::Site;
 ghost use mathlib.Core.Path.{_≡_};
 ghost use lib.Dec.{T};
 ghost use Rattle.model.specs.Cxl0.{isLocation};
 ghost use Rattle.model.specs.Meaning.{topologyOf, withinLimits};
-ghost use Rattle.search.specs.Sites.{Describes};
+ghost use Rattle.rows.specs.Sites.{Describes};
 
 pub fn site_of(t: Topology, x: Location) -> Site
     requires { ⌜ T (withinLimits t) × T (isLocation (topologyOf t) (x .0)) ⌝ }

@@ -1,45 +1,18 @@
 // The search over all locations, one after the other, each with only the events of the log that matter there.
-use crate::picking::pick_events;
-use crate::picking::place;
-use crate::retiming::retime;
 use crate::sites::site_of;
+use events::picking::pick_events;
+use events::picking::place;
+use events::retiming::retime;
 use model::Location;
 use model::Topology;
-use search::Site;
-use search::passes::copies;
-use search::passes::fits;
-use search::passes::last_good;
-use search::walking::walk;
+use search::explaining::explain;
 ghost use Prim.Native.Nat.{suc};
-ghost use Rattle.search.specs.Walks.{Walkable};
-ghost use Rattle.judge.specs.Visiting.{Loaded, Prepared, Searched, Extended, Visitable, Visits};
+ghost use Rattle.judge.specs.Visiting.{Loaded, Visitable, Visits};
 
 // How many of the events have a run at each location so far, and how many steps the schedules of these have.
 pub struct Progress {
     pub events: usize,
     pub steps: usize,
-}
-
-// How many of the picked events have a run at the site.
-fn try_site(w: &mut [u64], site: Site, count: usize) -> usize
-    requires { ⌜ Prepared site count (now w) ⌝ }
-    ensures { λ d. ⌜ Searched site count (now (w .entry)) d (now (w .exit)) ⌝ }
-{
-    copies(w, site, count);
-    if fits(w, site, count) {
-        return count;
-    }
-    last_good(w, site, count)
-}
-
-// Appends a schedule of the site for the picked events to the list of steps, with the places of the log.
-fn append(w: &mut [u64], site: Site, count: usize, steps: usize) -> usize
-    requires { ⌜ Walkable site count steps (now w) ⌝ }
-    ensures { λ more. ⌜ Extended site count steps (now (w .entry)) more (now (w .exit)) ⌝ }
-{
-    let more = walk(w, site, count, steps);
-    retime(w, count, steps, more);
-    more
 }
 
 // Visits location x: the events that go on from it, and the steps with those of its schedule.
@@ -52,20 +25,20 @@ fn visit(w: &mut [u64], t: Topology, x: Location, all: usize, p: Progress) -> Pr
         return p;
     }
     let site = site_of(t, x);
-    let good = try_site(w, site, count);
-    if good < count {
+    let found = explain(w, site, count, p.steps);
+    if found.events < count {
         return Progress {
-            events: place(&*w, good),
+            events: place(&*w, found.events),
             steps: p.steps,
         };
     }
     if p.events < all {
         return p;
     }
-    let steps = append(w, site, count, p.steps);
+    retime(w, count, p.steps, found.steps);
     Progress {
         events: p.events,
-        steps,
+        steps: found.steps,
     }
 }
 

@@ -1,13 +1,7 @@
 pub mod Vectors
-pub mod Payloads
 pub mod Tests
 pub mod Admission
-pub mod Summaries
 pub mod Passes
-pub mod Taken
-pub mod Progress
-pub mod Logs
-pub mod Walks
 pub mod Checks
 pub mod Each
 pub mod Elements
@@ -21,11 +15,5 @@ pub mod Accepts
 pub mod Unique
 pub mod Systems
 pub mod OneForm
-pub mod Sequences
-pub mod Stores
-pub mod Calls
-pub mod Walked
-pub mod Gathered
-pub mod Heads
 pub mod Lengths
 pub mod Bounded

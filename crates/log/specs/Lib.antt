@@ -1,10 +1,4 @@
-pub mod Refusals
 pub mod Records
 pub mod Bytes
-pub mod Fields
-pub mod Cursors
 pub mod Reading
-pub mod Recording
 pub mod Answers
-pub mod Inner
-pub mod Opening

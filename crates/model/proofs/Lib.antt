@@ -20,10 +20,9 @@ pub mod SomeSilent
 pub mod Decision
 pub mod Prefixes
 pub mod Owners
+pub mod Operations
 pub mod MarkedLogs
 pub mod Weaving
 pub mod Bits
 pub mod Limits
-pub mod Settled
-pub mod Crashes
 pub mod Theorems

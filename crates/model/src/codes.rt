@@ -6,7 +6,7 @@ ghost use Rattle.model.specs.Sharers.{insert};
 use super::Machine;
 
 impl Machine {
-    pub(crate) fn is(self, k: Machine) -> bool
+    pub fn is(self, k: Machine) -> bool
         ensures { λ r. ⌜ r ≡ eqb (self .0) (k .0) ⌝ }
     {
         let a = self.0;
@@ -16,7 +16,7 @@ impl Machine {
 }
 
 // The code of the set of machine i alone. A byte has no bit for a machine above 8.
-pub(crate) fn bit(i: Machine) -> u8
+pub fn bit(i: Machine) -> u8
     ensures { λ r. ⌜ r ≡ insert (i .0) 0 % 256 ⌝ }
 {
     let n = i.0;
@@ -27,7 +27,7 @@ pub(crate) fn bit(i: Machine) -> u8
 }
 
 // The machines 1 to n of a code.
-pub(crate) fn up_to(n: u8, c: u8) -> u8
+pub fn up_to(n: u8, c: u8) -> u8
     ensures { λ r. ⌜ r ≡ c % 2 ^ n ⌝ }
 {
     if n < 8 { c & ((1 << n) - 1) } else { c }

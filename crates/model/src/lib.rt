@@ -1,10 +1,6 @@
-// CXL0: what a system of machines that share memory may do. `State` is the state of a whole system, with a
-// method for each event and each silent step: it says whether that action is possible, and hands back the
-// state after it or, if it is not, the same state. The contracts are equations with the definitions of
-// specs/Cxl0.antt.
-mod codes;
-mod entries;
-mod stepping;
+// CXL0: what a system of machines that share memory may do, and the fixed part of such a system. The
+// definitions are those of specs/Cxl0.antt; the contracts are equations with them.
+pub mod codes;
 mod topologies;
 
 // The most machines and locations that a system has.
@@ -30,24 +26,6 @@ pub struct Topology {
     pub persistent: u8,
     pub locations: u8,
     pub homes: [Home; LOCATIONS],
-}
-
-// One location: bit i - 1 of `sharers` is set if machine i's cache holds a copy, all copies have the value
-// `copy`, and `memory` is the value in memory. Bits of machines that the system does not have say nothing.
-pub struct Entry {
-    pub sharers: u8,
-    pub copy: u32,
-    pub memory: u32,
-}
-
-pub struct State {
-    pub entries: [Entry; LOCATIONS],
-}
-
-// The answer to an action: whether it was possible, and the state after it or, if it was not, the same state.
-pub struct Stepped {
-    pub possible: bool,
-    pub state: State,
 }
 
 // An event by its operation number; what the operation does not use is ignored.

@@ -40,7 +40,7 @@ impl Topology {
         if few { self.owners_fit() } else { false }
     }
 
-    pub(crate) fn is_machine(self, i: Machine) -> bool
+    pub fn is_machine(self, i: Machine) -> bool
         ensures { λ r. ⌜ r ≡ isMachine (topologyOf self) (i .0) ⌝ }
     {
         let k = i.0;
@@ -48,7 +48,7 @@ impl Topology {
         (1 <= k) & (k <= n)
     }
 
-    pub(crate) fn is_location(self, x: Location) -> bool
+    pub fn is_location(self, x: Location) -> bool
         ensures { λ r. ⌜ r ≡ isLocation (topologyOf self) (x .0) ⌝ }
     {
         let at = x.0 as usize;
@@ -85,7 +85,7 @@ impl Topology {
     }
 
     // Within the limits, with this machine and this location.
-    pub(crate) fn names(self, i: Machine, x: Location) -> bool
+    pub fn names(self, i: Machine, x: Location) -> bool
         ensures { λ r. ⌜ r ≡ (withinLimits self
             && (isMachine (topologyOf self) (i .0) && isLocation (topologyOf self) (x .0))) ⌝ }
     {

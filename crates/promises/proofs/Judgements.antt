@@ -13,8 +13,8 @@ use Rattle.model.specs.Schedule.{Step}
 use Rattle.model.proofs.Tests.{true→T}
 use Rattle.log.specs.Records.{Records, systemOf}
 use Rattle.log.specs.Reading.{accepted, rejected, readLog}
-use Rattle.log.specs.Recording as recording
-use Rattle.log.specs.Recording.{recorded, written}
+use Rattle.recorder.specs.Recording as recording
+use Rattle.recorder.specs.Recording.{recorded, written}
 use Rattle.verdict_file.specs.Files.{Verdict, allowed, impossible, fileOf}
 use Rattle.verdict_file.specs.Writing.{room, put}
 use Rattle.verdict_file.proofs.Put.{put-there}

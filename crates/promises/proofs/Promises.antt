@@ -20,10 +20,10 @@ use Rattle.model.proofs.Theorems
 use Rattle.log.specs.Records.{Records, systemOf, WithinLimits}
 use Rattle.log.specs.Bytes.{encode}
 use Rattle.log.specs.Reading.{accepted, rejected, readLog}
-use Rattle.log.specs.Recording as recording
-use Rattle.log.specs.Recording.{recorded, written}
 use Rattle.log.proofs.Each.{Bytes}
 use Rattle.log.proofs.OneForm
+use Rattle.recorder.specs.Recording as recording
+use Rattle.recorder.specs.Recording.{recorded, written}
 use Rattle.verdict_file.specs.Files.{Verdict, allowed, impossible, fileOf}
 use Rattle.verdict_file.specs.Schedules.{readSchedule}
 use Rattle.replay.specs.Replaying as replaying

@@ -9,12 +9,13 @@ use lib.Dec.{T, leb, leb→le}
 use lib.ListN.{length}
 use Rattle.model.specs.Cxl0.{Topology, start}
 use Rattle.model.specs.Schedule.{Step, weave, inOrder}
-use Rattle.model.specs.Meaning.{topologyOf, stateOf}
+use Rattle.model.specs.Meaning.{topologyOf}
+use Rattle.states.specs.States.{stateOf}
 use Rattle.model.proofs.Tests.{and-l, and-r}
 use Rattle.log.specs.Records.{Records, systemOf}
-use Rattle.log.specs.Opening.{Opens}
-use Rattle.log.specs.Cursors.{Events}
-use Rattle.log.specs.declared.Opened.{Opened}
+use Rattle.cursors.specs.Opening.{Opens}
+use Rattle.cursors.specs.Cursors.{Events}
+use Rattle.cursors.specs.declared.Opened.{Opened}
 use Rattle.verdict_file.specs.Answers.{gives, refused}
 use Rattle.verdict_file.specs.Schedules.{everyStepFits, scheduleFits, readSchedule, counted}
 use Rattle.verdict_file.proofs.Accepted.{accepts, from-first}

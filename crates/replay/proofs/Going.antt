@@ -13,15 +13,16 @@ use Rattle.model.specs.Cxl0 as cxl0
 use Rattle.model.specs.Cxl0.{Event, Action, event, silent, Propagate, WriteBack, possible, next}
 use Rattle.model.specs.Operations.{isOperation, eventOf}
 use Rattle.model.specs.Schedule.{Step, silentOf, steps, weaveFrom, inOrder}
-use Rattle.model.specs.Meaning.{topologyOf, stateOf, withinLimits, Outcome, attempt, attemptEvent}
+use Rattle.model.specs.Meaning.{topologyOf, withinLimits, Outcome, attempt, attemptEvent}
+use Rattle.states.specs.States.{stateOf}
 use Rattle.model.specs.declared.Topology.{Topology}
 use Rattle.model.specs.declared.Event as model
 use Rattle.model.proofs.Tests.{T→true}
 use Rattle.model.proofs.Weaving.{inOrder-cons, weave-due, weave-event}
-use Rattle.log.specs.Fields.{payloadIn}
-use Rattle.log.specs.Cursors.{eventIn, eventAt, Events, next-event}
-use Rattle.log.specs.declared.EventAt.{EventAt}
+use Rattle.fields.specs.Fields.{payloadIn}
 use Rattle.log.proofs.Elements.{no-elements}
+use Rattle.cursors.specs.Cursors.{eventIn, eventAt, Events, next-event}
+use Rattle.cursors.specs.declared.EventAt.{EventAt}
 use Rattle.verdict_file.specs.Schedules.{stepAt, readSteps}
 use Rattle.verdict_file.proofs.Cursor.{walks, stops}
 use Rattle.replay.specs.Replaying.{Answer, counted, replayFrom}

@@ -1,5 +1,5 @@
 -- What replay's answers mean.
-use Rattle.log.specs.Refusals.{numberOf}
+use Rattle.fields.specs.Refusals.{numberOf}
 use Rattle.replay.specs.Replaying.{Answer}
 use Rattle.replay.specs.declared.Replayed as replayed
 use Rattle.replay.specs.declared.Replayed.the-variants.{Yes, No, Refused}

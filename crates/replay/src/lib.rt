@@ -3,15 +3,15 @@
 // is `replayLog` of specs/Replaying.antt, and proofs/Demand2.antt says what that means. It writes nothing.
 mod walking;
 
+use cursors::opening::open;
+use fields::Refusal;
 use log::Head;
-use log::Reading;
-use log::Refusal;
-use log::opening::open;
-use log::reader::read;
-use model::State;
-use verdict_file::FIRST;
-use verdict_file::Scheduled;
-use verdict_file::read_schedule;
+use reader::Reading;
+use reader::read;
+use schedules::FIRST;
+use schedules::Scheduled;
+use schedules::read_schedule;
+use states::State;
 use walking::Place;
 use walking::walk;
 ghost use mathlib.Core.Path.{_≡_};

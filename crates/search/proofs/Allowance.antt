@@ -13,7 +13,7 @@ use Rattle.model.specs.OneLocation.{runsAt, afterAt, ownSteps}
 use Rattle.model.proofs.Tests.{and-l, and-r, T→true}
 use Rattle.model.proofs.Merge.{each}
 use Rattle.model.proofs.Potential.{one, rank, gain, loss, rank-step}
-use Rattle.search.specs.Allowance.{allowance}
+use Rattle.walking.specs.Allowance.{allowance}
 
 -- What one event may add.
 abbrev adds : Location → Event → ℕ

@@ -8,16 +8,16 @@ use mathlib.Core.Logic.{⊎-elim}
 use mathlib.Core.List.{List, []}
 use lib.ListN.{drop}
 use Rattle.model.specs.Cxl0.{Location, Value, Topology}
-use Rattle.search.specs.declared.Row.{Row}
-use Rattle.search.specs.declared.Site.{Site}
-use Rattle.search.specs.Rows.{Right, Closed}
-use Rattle.search.specs.Scratch.{ROWS, STEPS, eventIn, eventsIn, rowIn, copyIn}
-use Rattle.search.specs.Sites.{copyAfter}
-use Rattle.search.specs.Steps.{Stepped}
-use Rattle.search.specs.Access.{MOST, RowPut}
-use Rattle.search.specs.Passes.{Copies, Answers, Ready, Steppable, OnlyRows, Passed}
-use Rattle.search.proofs.Frames.{only-none, only-then, only-wider, getD-below, getD-above}
-use Rattle.search.proofs.Events.{event-same, events-same, events-drop, events-drop-all, copies-suc}
+use Rattle.rows.specs.declared.Row.{Row}
+use Rattle.rows.specs.declared.Site.{Site}
+use Rattle.rows.specs.Rows.{Right, Closed}
+use Rattle.rows.specs.Sites.{copyAfter}
+use Rattle.rows.specs.Steps.{Stepped}
+use Rattle.walking.specs.Scratch.{ROWS, STEPS, eventIn, eventsIn, rowIn, copyIn}
+use Rattle.walking.specs.Access.{MOST, RowPut}
+use Rattle.walking.specs.Passes.{Copies, Answers, Ready, Steppable, OnlyRows}
+use Rattle.walking.proofs.Frames.{only-none, only-then, only-wider, getD-below, getD-above}
+use Rattle.walking.proofs.Events.{event-same, events-same, events-drop, events-drop-all, copies-suc}
 
 -- ---- what a row leaves as it was
 
@@ -95,15 +95,6 @@ module _ {s : Site} {m t : ℕ} {w w' w'' : List ℕ} {row : Row} (ready : Ready
       (λ e. subst (λ (k : ℕ). From s m w k (rowIn w'' k)) e (rw (put .stored) (written .here)))
       (λ b. rw (row-kept put d b) (written .rows d b h))
       (eq-or-lt-of-le l)
-
-  -- Row 0 is the last to be put.
-  pub written-all : t ≡ 0 → Passed s m w w''
-  written-all e =
-      record {
-        frame = frame-put;
-        rows = λ d h. rw (events-same (frame-put .frame) m (ready .few), frame-put .copies d)
-            (answers-put d (omega arith) h);
-      }
 
   -- Event d comes before row t.
   module _ {d : ℕ} (next : t ≡ suc d) where

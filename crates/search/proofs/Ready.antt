@@ -1,32 +1,20 @@
--- What the passes for the rows ask: the pass for the copies brings it about, for all events and for the first
--- of them, and they leave it as it is.
+-- What the pass for the rows asks: if it is there for all events, it is for the first of them, and the pass leaves it
+-- as it is.
 use Prim.Native.Nat.{ℕ, _≤_, _<_}
 use native.Mathlib.Nat.{le-trans}
 use native.Mathlib.Omega.{arith}
 use mathlib.Core.List.{List}
 use lib.ListN.{length}
 use Rattle.masks.specs.Sets.{OneToSix}
-use Rattle.search.specs.declared.Site.{Site}
-use Rattle.search.specs.Scratch.{eventIn}
-use Rattle.search.specs.Sites.{machineOf}
-use Rattle.search.specs.Access.{WORDS, MOST}
-use Rattle.search.specs.Passes.{Ready, OnlyRows, Copied}
-use Rattle.search.proofs.Events.{event-same, events-same}
-
--- The pass for the copies makes ready for the rows.
-pub ready-copied : {s : Site} {m : ℕ} {w w' : List ℕ} → WORDS ≤ length w → m ≤ MOST → OneToSix (s .owner .0)
-    → ((j : ℕ) → j < m → OneToSix (machineOf (eventIn w j))) → Copied s m w w' → Ready s m w'
-ready-copied room few owner machines copied =
-    record {
-      room = omega (arith, copied .frame .sized);
-      few = few;
-      owner = owner;
-      machines = λ j h. rw (event-same (copied .frame) j (omega arith)) (machines j h);
-      copies = copied .copies;
-    }
+use Rattle.rows.specs.declared.Site.{Site}
+use Rattle.rows.specs.Sites.{machineOf}
+use Rattle.walking.specs.Scratch.{eventIn}
+use Rattle.walking.specs.Access.{WORDS, MOST}
+use Rattle.walking.specs.Passes.{Ready, OnlyRows}
+use Rattle.walking.proofs.Events.{event-same, events-same}
 
 module _ {s : Site} {m : ℕ} {w : List ℕ} (ready : Ready s m w) where
-  -- The pass for the copies of all events serves the first of them.
+  -- The first of them.
   pub ready-fewer : (d : ℕ) → d ≤ m → Ready s d w
   ready-fewer d h =
       record {

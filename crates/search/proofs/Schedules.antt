@@ -20,16 +20,17 @@ use Rattle.model.proofs.Expand.{start-inRange}
 use Rattle.model.proofs.Split.{own-named}
 use Rattle.model.proofs.Weaving.{events-weave, silents-weave}
 use Rattle.model.proofs.Potential.{rank-start}
-use Rattle.search.specs.declared.Site.{Site}
-use Rattle.search.specs.Rows.{state}
-use Rattle.search.specs.Sites.{Describes}
-use Rattle.search.specs.Trails.{stepAt, RunsTo}
-use Rattle.search.specs.Walks.{Placed, Schedules}
-use Rattle.search.specs.Allowance.{allowance}
+use Rattle.rows.specs.declared.Site.{Site}
+use Rattle.rows.specs.Rows.{state}
+use Rattle.rows.specs.Sites.{Describes}
+use Rattle.walking.specs.Trails.{stepAt, RunsTo}
+use Rattle.walking.specs.Walks.{Placed, Schedules}
+use Rattle.walking.specs.Allowance.{allowance}
+use Rattle.walking.proofs.Trails.{runsTo-none, runsTo-append}
+use Rattle.walking.proofs.StepWords.{at-inOrder, at-own, at-before}
+use Rattle.search.specs.Paths.{Leading}
 use Rattle.search.proofs.Ordering.{inOrder-append, silentAt-silentOf}
 use Rattle.search.proofs.OneMore.{weave-more}
-use Rattle.search.proofs.Trails.{runsTo-none, runsTo-append}
-use Rattle.search.proofs.StepWords.{at-inOrder, at-own, at-before}
 use Rattle.search.proofs.Allowance.{rank-runs}
 
 -- The silent steps of the actions are those of the schedule.
@@ -69,14 +70,6 @@ named-steps sys (silent a ∷ acts) (q ∷ ps) e t p m =
     (List·Memᴰ·cases-cons m)
 
 -- ---- event by event
-
--- Steps of the site's location in order that, woven with the events, lead from the start to the short form z.
-pub record Leading (s : Site) (es : List Event) (ps : List Step) (z : Local) : Type 0 where
-  pub own : (p : Step) → List·Memᴰ p ps → p .location ≡ s .location .0
-  pub order : T (inOrder 0 (length es) ps)
-  pub early : (p : Step) → List·Memᴰ p ps → p .before < length es
-  pub runs : (sys : Topology) → Describes sys s
-      → RunsTo sys (s .location .0) (weave es ps) (startAt sys (s .location .0)) z
 
 pub leading-none : (s : Site) → Leading s [] [] (state 0 0 (s .initial))
 unfolding inOrder weave weaveFrom steps startAt

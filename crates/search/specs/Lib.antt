@@ -1,15 +1,3 @@
-pub mod Rows
-pub mod Lines
-pub mod Sites
-pub mod Steps
-pub mod Scratch
-pub mod Access
-pub mod Passes
 pub mod Rising
 pub mod Ordering
-pub mod Stored
-pub mod SortedWords
-pub mod Trails
-pub mod Allowance
-pub mod Places
-pub mod Walks
+pub mod Paths

@@ -1,14 +1,14 @@
 // The verdict program: reads a log from standard input and prints `allowed` and the number of silent steps, with
 // a line for each of them (events before it, location, machine), or `impossible` and the first impossible event,
 // or `number` and that of the refusal; and then `end`.
+use fields::refusals::number_of;
 use judge::Judged;
 use judge::judge;
-use log::refusals::number_of;
+use schedules::FIRST;
+use schedules::Step;
+use schedules::StepAt;
+use schedules::step_at;
 use verdict_file::FILE_MOST;
-use verdict_file::FIRST;
-use verdict_file::Step;
-use verdict_file::StepAt;
-use verdict_file::step_at;
 
 // The most bytes that are read. An accepted log has at most 1,160 bytes, and what the judge makes of the first
 // 1,161 bytes of an input is right for the whole input, as proofs/Input.antt shows.

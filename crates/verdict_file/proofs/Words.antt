@@ -9,9 +9,9 @@ use lib.Dec.{T, leb, ltb, leb→le, ltb→lt}
 use lib.ListN.{length, getD, take, drop, length-map, length-append}
 use lib.Seq.{take-suc, take-length, drop-cons, length-take-le}
 use Rattle.model.proofs.Tests.{and-l, and-r}
+use Rattle.model.specs.Words.{stepOfWord}
 use Rattle.log.specs.Bytes.{pair, field}
 use Rattle.verdict_file.specs.Files.{stepsMost, header, stepField, stepFields, end, fileOf}
-use Rattle.model.specs.Words.{stepOfWord}
 use Rattle.verdict_file.specs.Writing.{allowedBy, stepsFit, writable, put}
 use Rattle.verdict_file.proofs.Files.{length-stepFields}
 use Rattle.verdict_file.proofs.Put.{put-more}

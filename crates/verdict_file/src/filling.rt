@@ -9,8 +9,8 @@ ghost use mathlib.Core.Path.{_≡_};
 ghost use Prim.Native.Nat.{_+_, _≤_, _<_, _^_};
 ghost use lib.Dec.{T, leb};
 ghost use lib.ListN.{length};
-ghost use Rattle.verdict_file.specs.Files.{impossible, fileMost, header, stepField, end, fileOf};
 ghost use Rattle.model.specs.Words.{stepOfWord};
+ghost use Rattle.verdict_file.specs.Files.{impossible, fileMost, header, stepField, end, fileOf};
 ghost use Rattle.verdict_file.specs.Writing.{allowedBy, writable, put};
 
 // The words below it are steps of three bytes.

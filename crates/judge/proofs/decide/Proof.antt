@@ -5,8 +5,8 @@ use mathlib.Core.Path.{_≡_, ap, _∙_}
 use mathlib.Core.List.{List}
 use denote.Ref.{now}
 use borrow.Author.Needs.{needs}
-use Rattle.log.specs.Opening.{Opens}
 use Rattle.log.proofs.Each.{Bytes, bytes-by-index}
+use Rattle.cursors.specs.Opening.{Opens}
 use Rattle.judge.specs.Clearing.{zeros}
 use Rattle.judge.proofs.Deciding.{fit-out, fit-scratch, loadable, loads-loaded, decided}
 use Rattle.judge.proofs.decide.Statement.{statement}

@@ -4,8 +4,8 @@ use mathlib.Core.Bool.{true}
 use denote.Ref.{now}
 use borrow.Author.Needs.{needs}
 use borrow.Author.Tests.{not-true, not-false}
-use Rattle.log.specs.Answers.{meaningOf}
-use Rattle.log.proofs.Heads.{accepted-head, refused-number}
+use Rattle.reader.specs.Answers.{meaningOf}
+use Rattle.reader.proofs.Heads.{accepted-head, refused-number}
 use Rattle.verdict_file.specs.Writing.{room}
 use Rattle.judge.specs.Judging.{areasFit}
 use Rattle.judge.proofs.Deciding.{no-room, few-words, areas-fit, too-short, judged, log-refused}

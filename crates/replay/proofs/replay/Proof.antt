@@ -1,7 +1,7 @@
 -- `replay` is `replayLog`: the log's refusal, or the replay of an accepted log.
 use mathlib.Core.Path.{sym, ap, _∙_}
-use Rattle.log.specs.Answers.{meaningOf}
-use Rattle.log.proofs.Heads.{accepted-head, refused-number}
+use Rattle.reader.specs.Answers.{meaningOf}
+use Rattle.reader.proofs.Heads.{accepted-head, refused-number}
 use Rattle.replay.specs.Replaying.{replayLog}
 use borrow.Author.Needs.{needs}
 use Rattle.replay.proofs.replay.Statement.{statement}

@@ -4,7 +4,8 @@ use mathlib.Core.Path.{_≡_, refl, sym, ap, _∙_}
 use denote.Ref.{now}
 use Rattle.model.specs.Meaning.{topologyOf}
 use Rattle.log.specs.declared.Head.{Head}
-use Rattle.verdict_file.specs.Answers.{gives, scheduledOf}
+use Rattle.verdict_file.specs.Answers.{gives}
+use Rattle.schedules.specs.Answers.{scheduledOf}
 use Rattle.verdict_file.specs.Schedules.{readSchedule, counted}
 use Rattle.replay.specs.Replaying.{Answer}
 use Rattle.replay.proofs.Beginning.{steps-read, none-read, count-few}

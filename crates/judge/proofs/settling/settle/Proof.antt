@@ -3,9 +3,9 @@ use native.Mathlib.Omega.{arith}
 use mathlib.Core.Path.{_≡_, _∙_}
 use denote.Ref.{now}
 use borrow.Author.Needs.{needs}
-use Rattle.search.specs.Scratch.{SORTED}
+use Rattle.walking.specs.Scratch.{SORTED}
 use Rattle.judge.specs.Visiting.{Visits}
-use Rattle.judge.proofs.Concluding.{few-events, ends-first, few-steps, steps-listed, arranged}
+use Rattle.judge.proofs.Concluding.{few-events, ends-first, steps-listed, arranged}
 use Rattle.judge.proofs.Soundness.{part-words, settled-impossible, settled-allowed}
 use Rattle.judge.proofs.settling.settle.Statement.{statement}
 use Rattle.judge.proofs.settling.settle.Tie as tie
@@ -55,8 +55,8 @@ order-requires c κs =
 
 add-issue-allowed : tie.Need-add-issue-allowed
 add-issue-allowed c =
-    let h = c .before .before .before .before .before .before in
-    omega (arith, few-steps (start (h .before) .pre .1) (visits (h .before)) (h .if1 .left))
+    let k = c .before .before .before .before .before .before .before in
+    omega (arith, visits k .visited .few)
 
 sub-issue-allowed : tie.Need-sub-issue-allowed
 sub-issue-allowed c = omega arith
@@ -66,11 +66,9 @@ part-issue-allowed-start c = omega arith
 
 part-issue-allowed-end : tie.Need-part-issue-allowed-end
 part-issue-allowed-end c =
-    let h = c .before .before .before .before .before .before .before in
-    let k = h .before in
-    let few = few-steps (start k .pre .1) (visits k) (h .if1 .left) in
+    let k = c .before .before .before .before .before .before .before .before in
     let sized = c .before .before .before .before .before .order .ensures .sized in
-    omega (arith, few, sized, visits k .kept .sized, start k .pre .1 .linked .room)
+    omega (arith, visits k .visited .few, sized, visits k .kept .sized, start k .pre .1 .linked .room)
 
 issue-allowed-requires : tie.Need-issue-allowed-requires
 issue-allowed-requires c κs = search needs

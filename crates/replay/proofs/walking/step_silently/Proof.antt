@@ -1,6 +1,6 @@
 -- `step_silently`: machine 0 is a write-back, and any other propagates its copy.
 use Rattle.model.specs.Schedule.{silentOf}
-use Rattle.verdict_file.specs.Answers.{stepOf}
+use Rattle.schedules.specs.Answers.{stepOf}
 use Rattle.replay.proofs.Going.{propagates}
 use borrow.Author.Needs.{needs}
 use Rattle.replay.proofs.walking.step_silently.Statement.{statement}

@@ -1,7 +1,8 @@
 -- `take_event` comes to what the event comes to, and goes on to the next event.
 use native.Mathlib.Omega.{arith}
 use mathlib.Core.Path.{refl, sym, ap, _∙_}
-use Rattle.model.specs.Meaning.{Outcome, outcomeOf}
+use Rattle.model.specs.Meaning.{Outcome}
+use Rattle.states.specs.States.{outcomeOf}
 use Rattle.replay.proofs.Going.{one-found, not-absent}
 use borrow.Author.Needs.{needs}
 use Rattle.replay.proofs.walking.take_event.Statement.{statement}

@@ -3,7 +3,7 @@ use native.Mathlib.Omega.{arith}
 use mathlib.Core.Path.{_≡_, sym, ap, _∙_}
 use mathlib.Core.Option.{some}
 use denote.Ref.{now}
-use Rattle.verdict_file.specs.Answers.{stepOf, stepAtOf}
+use Rattle.schedules.specs.Answers.{stepOf, stepAtOf}
 use Rattle.verdict_file.specs.Schedules.{stepAt}
 use Rattle.replay.proofs.Going.{step-goes, event-goes, event-goes-last}
 use borrow.Author.Needs.{needs}

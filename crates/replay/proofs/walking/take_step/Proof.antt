@@ -1,6 +1,7 @@
 -- `take_step` comes to what the step comes to, and goes on to the next step.
 use mathlib.Core.Path.{refl, ap}
-use Rattle.model.specs.Meaning.{Outcome, outcomeOf}
+use Rattle.model.specs.Meaning.{Outcome}
+use Rattle.states.specs.States.{outcomeOf}
 use borrow.Author.Needs.{needs}
 use Rattle.replay.proofs.walking.take_step.Statement.{statement}
 use Rattle.replay.proofs.walking.take_step.Tie as tie

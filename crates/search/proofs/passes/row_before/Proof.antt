@@ -3,10 +3,10 @@ use mathlib.Core.Path.{sym, subst, subst₂}
 use borrow.Author.Needs.{needs}
 use Rattle.model.specs.Cxl0.{Value, Event}
 use Rattle.masks.specs.Sets.{OneToSix}
-use Rattle.search.specs.Rows.{Closed}
-use Rattle.search.specs.Sites.{copyAfter}
-use Rattle.search.specs.Steps.{Stepped}
-use Rattle.search.proofs.Events.{meant-read, machine-read}
+use Rattle.rows.specs.Rows.{Closed}
+use Rattle.rows.specs.Sites.{copyAfter}
+use Rattle.rows.specs.Steps.{Stepped}
+use Rattle.walking.proofs.Events.{meant-read, machine-read}
 use Rattle.search.proofs.passes.row_before.Statement.{statement}
 use Rattle.search.proofs.passes.row_before.Tie as tie
 

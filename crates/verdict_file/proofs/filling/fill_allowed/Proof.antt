@@ -7,8 +7,8 @@ use mathlib.Core.List.{List, map}
 use lib.ListN.{length, getD, length-map}
 use denote.Ref.{now}
 use borrow.Author.Needs.{needs}
-use Rattle.verdict_file.specs.Files.{header, stepField, stepFields, end}
 use Rattle.model.specs.Words.{stepOfWord}
+use Rattle.verdict_file.specs.Files.{header, stepField, stepFields, end}
 use Rattle.verdict_file.specs.Writing.{put}
 use Rattle.verdict_file.proofs.Files.{length-allowed}
 use Rattle.verdict_file.proofs.Put.{put-none}

@@ -4,9 +4,9 @@ use native.Mathlib.Omega.{arith}
 use mathlib.Core.Path.{refl}
 use denote.Ref.{now}
 use lib.ListN.{length-set}
+use Rattle.model.specs.Words.{stepOfWord}
 use Rattle.log.specs.Bytes.{pair, field}
 use Rattle.verdict_file.specs.Files.{stepField}
-use Rattle.model.specs.Words.{stepOfWord}
 use Rattle.verdict_file.proofs.Put.{put-sets}
 use Rattle.verdict_file.proofs.filling.put_step.Statement.{statement}
 use Rattle.verdict_file.proofs.filling.put_step.Tie as tie

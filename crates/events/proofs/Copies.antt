@@ -1,0 +1,100 @@
+-- A copy of an event of the log among the search's events: what they are then, and that the log stays.
+use Prim.Native.Nat.{ℕ, zero, suc, _+_, _*_, _≤_, _<_}
+use native.Mathlib.Nat.{zero-add, add-zero}
+use native.Mathlib.Numerals.{add-one}
+use native.Mathlib.Omega.{arith}
+use mathlib.Core.Path.{_≡_, refl, sym, ap, _∙_}
+use mathlib.Core.List.{List, [], _∷_, _++_}
+use lib.ListN.{length, getD, drop}
+use Rattle.model.specs.Cxl0.{Event}
+use Rattle.walking.specs.Scratch.{EVENTS, ROWS, eventIn, eventsFrom, eventsIn}
+use Rattle.walking.specs.Access.{WORDS, OnlyIn}
+use Rattle.walking.proofs.Frames.{getD-below, getD-above, only-wider}
+use Rattle.walking.proofs.Access.{two-read, two-only}
+use Rattle.walking.proofs.Events.{events-suc}
+use Rattle.events.specs.Linking.{LOG, HEADS, placeIn, placesFrom, placesIn, Linked}
+use Rattle.events.specs.Picking.{copied}
+use Rattle.events.proofs.Places.{atPlace}
+use Rattle.events.proofs.LogWords.{wordOf, valueOf, log-event, log-event-same, events-at, events-are}
+
+last-place : (w : List ℕ) (j t : ℕ)
+    → placesFrom w j (suc t) ≡ placesFrom w j t ++ placeIn EVENTS w (j + t) ∷ []
+unfolding placesFrom
+last-place w j zero = rw add-zero
+last-place w j (suc t) =
+    let next : suc j + t ≡ j + suc t = omega arith in
+    rw (← next) (ap (_∷_ (placeIn EVENTS w j)) (last-place w (suc j) t))
+
+-- One place more at the end.
+places-suc : (w : List ℕ) (t : ℕ) → placesIn w (suc t) ≡ placesIn w t ++ placeIn EVENTS w t ∷ []
+places-suc w t = rw (zero-add t) at (last-place w 0 t)
+
+module _ (w : List ℕ) (j k : ℕ) (room : WORDS ≤ length w) (low : k < 129) where
+  first-read : getD (copied j k w) (EVENTS + 2 * k) 0 ≡ wordOf w j
+  first-read = two-read w (EVENTS + 2 * k) (wordOf w j) (valueOf w j) (omega arith) .0
+
+  second-read : getD (copied j k w) (EVENTS + 2 * k + 1) 0 ≡ valueOf w j
+  second-read = two-read w (EVENTS + 2 * k) (wordOf w j) (valueOf w j) (omega arith) .1
+
+  narrow : OnlyIn (EVENTS + 2 * k) (EVENTS + 2 * k + 2) w (copied j k w)
+  narrow = two-only w (EVENTS + 2 * k) (wordOf w j) (valueOf w j) (EVENTS + 2 * k + 2) (omega arith)
+
+  -- A copy changes no word outside the search's events.
+  pub copied-frame : OnlyIn EVENTS ROWS w (copied j k w)
+  copied-frame = only-wider narrow (omega arith) (omega arith)
+
+  kept-events : (i n : ℕ) → i + n ≤ k → eventsFrom (copied j k w) i n ≡ eventsFrom w i n
+  unfolding eventsFrom eventIn
+  kept-events i zero h = refl
+  kept-events i (suc n) h =
+      let first = getD-below narrow (EVENTS + 2 * i) (omega arith) in
+      let second = getD-below narrow (EVENTS + 2 * i + 1) (omega arith) in
+      rw (first, second, kept-events (suc i) n (omega arith))
+
+  kept-places : (i n : ℕ) → i + n ≤ k → placesFrom (copied j k w) i n ≡ placesFrom w i n
+  unfolding placesFrom
+  kept-places i zero h = refl
+  kept-places i (suc n) h =
+      let first = getD-below narrow (EVENTS + 2 * i) (omega arith) in
+      rw (first, kept-places (suc i) n (omega arith))
+
+  last-copied : eventIn (copied j k w) k ≡ eventIn (drop LOG w) j
+  unfolding eventIn
+  last-copied = rw (first-read, second-read) (sym (log-event w j))
+
+  -- The copied event comes after the first k events, and its place after their places.
+  pub copied-events : eventsIn (copied j k w) (k + 1) ≡ eventsIn w k ++ eventIn (drop LOG w) j ∷ []
+  copied-events =
+      rw (add-one k, events-suc (copied j k w) k, kept-events 0 k (omega arith), last-copied)
+
+  pub copied-places : placesIn (copied j k w) (k + 1) ≡ placesIn w k ++ placeIn LOG w j ∷ []
+  copied-places =
+      rw (add-one k, places-suc (copied j k w) k, kept-places 0 k (omega arith), first-read)
+
+-- The event at a place of the log.
+pub linked-event : {es : List Event} {w : List ℕ} → Linked es w → (i : ℕ) → i < length es
+    → eventIn (drop LOG w) i ≡ atPlace es i
+linked-event {es} {w} linked i h =
+    sym (events-at (drop LOG w) (length es) i h) ∙ ap (λ (l : List Event). atPlace l i) (linked .events)
+
+-- A change of the search's events leaves the log with its links.
+pub linked-same : {es : List Event} {w w' : List ℕ} → OnlyIn EVENTS ROWS w w' → Linked es w → Linked es w'
+linked-same {es} {w} {w'} only linked =
+    let first : (j : ℕ) → wordOf w' j ≡ wordOf w j = λ j. getD-above only (LOG + 2 * j) (omega arith) in
+    let second : (j : ℕ) → valueOf w' j ≡ valueOf w j =
+    λ j. getD-above only (LOG + 2 * j + 1) (omega arith) in
+    record {
+      room = omega (arith, linked .room, only .sized);
+      few = linked .few;
+      events = events-are (drop LOG w') es
+          (λ i h. log-event-same w w' i (first i) (second i) ∙ linked-event linked i h);
+      places = λ j h. rw (first j) (linked .places j h);
+      owns = λ x j h o. rw (first j) (linked .owns x j h o);
+      crashes = λ j h. rw (first j) (linked .crashes j h);
+      heads = λ x h. getD-above only (HEADS + x) (omega arith) ∙ linked .heads x h;
+    }
+
+-- And the other way round.
+pub linked-back : {es : List Event} {w w' : List ℕ} → OnlyIn EVENTS ROWS w w' → Linked es w' → Linked es w
+linked-back only =
+    linked-same (record { sized = sym (only .sized); below = sym (only .below); above = sym (only .above) })

@@ -1,0 +1,94 @@
+-- Which events matter at a location: from facts about the event at each place to what is kept of a list.
+use Prim.Native.Nat.{ℕ, zero, suc, _+_, _-_, _≤_, _<_}
+use native.Mathlib.Nat.{add-zero}
+use native.Mathlib.Omega.{arith}
+use mathlib.Core.Path.{_≡_}
+use mathlib.Core.Bool.{not}
+use mathlib.Core.List.{List, _∷_}
+use lib.Dec.{T}
+use lib.ListN.{length, drop, drop-of-length-le}
+use lib.Seq.{drop-cons}
+use Rattle.model.specs.Cxl0.{Location, Event, LStore, RStore, MStore, Load, LFlush, RFlush, Crash}
+use Rattle.model.specs.OneLocation.{eventAt}
+use Rattle.model.proofs.Tests.{and-i}
+use Rattle.events.specs.Thinning.{ownEvent, isCrash, noneOwn, Thins, keep, skip, Leads, begin, before}
+use Rattle.events.proofs.Places.{atPlace}
+
+-- An event that names x is no crash.
+pub own-no-crash : (x : Location) (e : Event) → T (ownEvent x e) → T (not (isCrash e))
+unfolding ownEvent isCrash
+own-no-crash x (LStore i y v) t = tt
+own-no-crash x (RStore i y v) t = tt
+own-no-crash x (MStore i y v) t = tt
+own-no-crash x (Load i y v) t = tt
+own-no-crash x (LFlush i y) t = tt
+own-no-crash x (RFlush i y) t = tt
+own-no-crash x (Crash i) t = absurd t
+
+-- An event that does not name x and is no crash does not concern x.
+pub unconcerned : (x : Location) (e : Event) → T (not (ownEvent x e)) → T (not (isCrash e))
+    → T (not (eventAt x e))
+unfolding ownEvent isCrash eventAt
+unconcerned x (LStore i y v) s t = s
+unconcerned x (RStore i y v) s t = s
+unconcerned x (MStore i y v) s t = s
+unconcerned x (Load i y v) s t = s
+unconcerned x (LFlush i y) s t = s
+unconcerned x (RFlush i y) s t = s
+unconcerned x (Crash i) s t = absurd t
+
+module _ (x : Location) (es : List Event) where
+  none-from : (d p : ℕ) → p + d ≡ length es
+      → ((i : ℕ) → p ≤ i → i < length es → T (not (ownEvent x (atPlace es i)))) → T (noneOwn x (drop p es))
+  unfolding noneOwn
+  none-from zero p e f = rw (drop-of-length-le es {i = p} (omega arith)) tt
+  none-from (suc d) p e f =
+      rw (drop-cons es p (Crash 0) (omega arith))
+      (and-i (not (ownEvent x (atPlace es p))) (noneOwn x (drop (suc p) es))
+      (f p (omega arith) (omega arith))
+      (none-from d (suc p) (omega arith) (λ i l h. f i (omega arith) h)))
+
+  -- No event from p on names x.
+  pub none-own : (p : ℕ) → p ≤ length es
+      → ((i : ℕ) → p ≤ i → i < length es → T (not (ownEvent x (atPlace es i)))) → T (noneOwn x (drop p es))
+  none-own p h f = none-from (length es - p) p (omega arith) f
+
+  module _ {kept : List Event} {places : List ℕ} where
+    -- The event at p is kept.
+    pub keep-at : (p : ℕ) → p < length es → Thins x (suc p) (drop (suc p) es) kept places
+        → Thins x p (drop p es) (atPlace es p ∷ kept) (p ∷ places)
+    keep-at p h t = rw (drop-cons es p (Crash 0) h) (keep t)
+
+    skips : (d p : ℕ) → p + d ≤ length es
+        → ((i : ℕ) → p ≤ i → i < p + d → T (not (eventAt x (atPlace es i))))
+        → Thins x (p + d) (drop (p + d) es) kept places → Thins x p (drop p es) kept places
+    skips zero p h f t = rw add-zero at t
+    skips (suc d) p h f t =
+        let sum : p + suc d ≡ suc p + d = omega arith in
+        let later = skips d (suc p) (omega arith) (λ i l k. f i (omega arith) (omega arith)) (rw sum at t) in
+        rw (drop-cons es p (Crash 0) (omega arith)) (skip (f p (omega arith) (omega arith)) later)
+
+    -- The events from p to q, which do not concern x, are left out.
+    pub skip-to : (p q : ℕ) → p ≤ q → q ≤ length es
+        → ((i : ℕ) → p ≤ i → i < q → T (not (eventAt x (atPlace es i))))
+        → Thins x q (drop q es) kept places → Thins x p (drop p es) kept places
+    skip-to p q l h f t =
+        let sum : p + (q - p) ≡ q = omega arith in
+        skips (q - p) p (omega arith) (λ i a b. f i a (omega arith)) (rw sum t)
+
+    leads-from : (d p : ℕ) → p + d ≤ length es
+        → ((i : ℕ) → p ≤ i → i < p + d → T (not (ownEvent x (atPlace es i))))
+        → Leads x (p + d) (drop (p + d) es) kept places → Leads x p (drop p es) kept places
+    leads-from zero p h f t = rw add-zero at t
+    leads-from (suc d) p h f t =
+        let sum : p + suc d ≡ suc p + d = omega arith in
+        let later = leads-from d (suc p) (omega arith) (λ i l k. f i (omega arith) (omega arith))
+        (rw sum at t) in
+        rw (drop-cons es p (Crash 0) (omega arith)) (before (f p (omega arith) (omega arith)) later)
+
+    -- The events before q, which do not name x, are left out.
+    pub lead-to : (q : ℕ) → q ≤ length es → ((i : ℕ) → i < q → T (not (ownEvent x (atPlace es i))))
+        → Thins x q (drop q es) kept places → Leads x 0 es kept places
+    lead-to q h f t =
+        let sum : 0 + q ≡ q = omega arith in
+        leads-from q 0 (omega arith) (λ i l k. f i (omega arith)) (rw sum (begin t))

@@ -1,0 +1,10 @@
+pub mod Retimings
+pub mod Places
+pub mod Leading
+pub mod LogWords
+pub mod FieldBytes
+pub mod LoggingLoop
+pub mod LinkTurns
+pub mod LinkingLoop
+pub mod Copies
+pub mod PickingLoop

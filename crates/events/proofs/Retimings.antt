@@ -1,0 +1,114 @@
+-- Steps of the kept events become steps of the log: each word's count becomes the place of an event.
+use Prim.Native.Nat.{ℕ, zero, suc, _+_, _*_, _-_, _/_, _%_, _≤_, _<_}
+use native.Mathlib.Nat.{le-of-suc-le-suc, add-zero, zero-add, div-div-eq-div-mul}
+use native.Mathlib.Omega.{arith}
+use mathlib.Core.Path.{_≡_, sym, ap, ap₂, _∙_}
+use mathlib.Core.List.{List, [], _∷_, _++_, map, map-append}
+use lib.ListN.{length, getD, take, drop, set}
+use lib.Seq.{slice-empty, take-suc, take-suc-set, drop-append-le, length-take-le}
+use Rattle.model.specs.Schedule.{Step}
+use Rattle.model.specs.Words.{stepOfWord}
+use Rattle.walking.specs.Scratch.{EVENTS, STEPS}
+use Rattle.walking.specs.Scratch.{countOf}
+use Rattle.walking.proofs.Frames.{only-none, only-set, only-then, only-wider, getD-below, getD-above}
+use Rattle.events.specs.Thinning.{retimed}
+use Rattle.events.specs.Linking.{placeIn, placesFrom, placesIn}
+use Rattle.events.specs.Retiming.{wordsBetween, Retimable, Retimed, withCount, WordRetimed}
+
+-- ---- one word
+
+-- Another number in the lowest byte of a word is another count of its step.
+pub word-count : (v n : ℕ) → n < 256 → stepOfWord (v - v % 256 + n) ≡ withCount n (stepOfWord v)
+unfolding stepOfWord
+word-count v n small =
+    let r = v - v % 256 + n in
+    let count : r % 256 ≡ n = omega arith in
+    let above : r / 256 ≡ v / 256 = omega arith in
+    let machine : r / 65536 ≡ v / 65536 =
+    sym (div-div-eq-div-mul r 256 256) ∙ ap (λ (q : ℕ). q / 256) above ∙ div-div-eq-div-mul v 256 256 in
+    rw (count, above, machine)
+
+-- ---- the places
+
+places-from : (w : List ℕ) (j t k : ℕ) → t < k → getD (placesFrom w j k) t 0 ≡ placeIn EVENTS w (j + t)
+unfolding placesFrom
+places-from w j t zero h = absurd (omega arith)
+places-from w j zero (suc k) h = rw add-zero
+places-from w j (suc t) (suc k) h =
+    let next : suc j + t ≡ j + suc t = omega arith in
+    rw (← next) (places-from w (suc j) t k (le-of-suc-le-suc h))
+
+-- Of the places of the first k events, number t is that of event t.
+pub places-at : (w : List ℕ) (k t : ℕ) → t < k → getD (placesIn w k) t 0 ≡ placeIn EVENTS w t
+places-at w k t h = rw (zero-add t) at (places-from w 0 t k h)
+
+-- ---- the words of the list
+
+-- One step more at the end.
+retimed-more : (places : List ℕ) (ps : List Step) (p : Step)
+    → retimed places (ps ++ p ∷ []) ≡ retimed places ps ++ withCount (getD places (p .before) 0) p ∷ []
+unfolding retimed
+retimed-more places ps p = map-append (λ p. withCount (getD places (p .before) 0) p) ps (p ∷ [])
+
+-- One word more at the end, and the same with that word set.
+module _ (from j : ℕ) (w : List ℕ) (order : from ≤ j) (inside : STEPS + j < length w) where
+  joined : (l : List ℕ) → drop (STEPS + from) (take (STEPS + j) w ++ l) ≡ wordsBetween from j w ++ l
+  joined l =
+      let long = length-take-le (STEPS + j) w (omega arith) in
+      drop-append-le (STEPS + from) (take (STEPS + j) w) l (omega (arith, long))
+
+  words-more : wordsBetween from (j + 1) w ≡ wordsBetween from j w ++ getD w (STEPS + j) 0 ∷ []
+  words-more =
+      let e : STEPS + (j + 1) ≡ suc (STEPS + j) = omega arith in
+      rw (e, take-suc w (STEPS + j) 0 inside) (joined (getD w (STEPS + j) 0 ∷ []))
+
+  words-set : (r : ℕ) → wordsBetween from (j + 1) (set w (STEPS + j) r) ≡ wordsBetween from j w ++ r ∷ []
+  words-set r =
+      let e : STEPS + (j + 1) ≡ suc (STEPS + j) = omega arith in
+      rw (e, take-suc-set w (STEPS + j) r inside) (joined (r ∷ []))
+
+-- ---- the loop
+
+-- No word is retimed yet.
+pub retimed-none : (k from : ℕ) (w : List ℕ) → Retimed k from from w w
+unfolding retimed
+retimed-none k from w =
+    record { frame = only-none (STEPS + from) (STEPS + from) w; steps = rw (slice-empty (STEPS + from) w) }
+
+module _ {k from to : ℕ} {w : List ℕ} (can : Retimable k from to w) {j : ℕ} (order : from ≤ j) (more : j < to)
+    {w' : List ℕ} (so-far : Retimed k from j w w') where
+  -- The next word is as it was.
+  next-kept : getD w' (STEPS + j) 0 ≡ getD w (STEPS + j) 0
+  next-kept = getD-above (so-far .frame) (STEPS + j) (omega arith)
+
+  -- Its count is that of a kept event.
+  pub next-count : countOf (getD w' (STEPS + j) 0) < k
+  next-count = rw next-kept (can .counts j order more)
+
+  -- One word more.
+  pub retimed-next : (r : ℕ) → WordRetimed w' (getD w' (STEPS + j) 0) r
+      → Retimed k from (j + 1) w (set w' (STEPS + j) r)
+  unfolding stepOfWord
+  retimed-next r new =
+      let v = getD w (STEPS + j) 0 in
+      let places = placesIn w k in
+      let old = wordsBetween from j w in
+      let small = can .counts j order more in
+      let kept = getD-below (so-far .frame) (EVENTS + 2 * countOf v) (omega (arith, small, can .few)) in
+      let place : placeIn EVENTS w' (countOf v) ≡ getD places (countOf v) 0 =
+      ap (λ (word : ℕ). word / 16777216 % 256) kept ∙ sym (places-at w k (countOf v) small) in
+      let step : stepOfWord r ≡ withCount (getD places (countOf v) 0) (stepOfWord v) =
+      (rw next-kept at new) ∙ ap (λ (n : ℕ). withCount n (stepOfWord v)) place in
+      let inside : STEPS + j < length w = omega (arith, can .room, can .short) in
+      let before = ap (map stepOfWord) (words-more from j w order inside)
+      ∙ map-append stepOfWord old (v ∷ []) in
+      let after = ap (map stepOfWord) (words-set from j w' order (omega (arith, so-far .frame .sized)) r)
+      ∙ map-append stepOfWord (wordsBetween from j w') (r ∷ []) in
+      let set-one = only-set (STEPS + from) (STEPS + (j + 1)) w' (STEPS + j) r (omega arith) (omega arith) in
+      record {
+        frame = only-then (only-wider (so-far .frame) (omega arith) (omega arith)) set-one;
+        steps = after
+            ∙ ap₂ (λ (ps : List Step) (p : Step). ps ++ p ∷ []) (so-far .steps) step
+            ∙ sym (retimed-more places (map stepOfWord old) (stepOfWord v))
+            ∙ sym (ap (retimed places) before);
+      }

@@ -1,0 +1,5 @@
+pub mod Thinning
+pub mod Linking
+pub mod Logging
+pub mod Picking
+pub mod Retiming

@@ -1,0 +1,39 @@
+-- The words of steps whose counts of kept events become places of the log.
+use Prim.Native.Nat.{ℕ, _+_, _≤_, _<_}
+use mathlib.Core.Path.{_≡_}
+use mathlib.Core.List.{List, map}
+use lib.ListN.{length, getD}
+use lib.Seq.{slice}
+use Rattle.model.specs.Schedule.{Step}
+use Rattle.model.specs.Words.{stepOfWord}
+use Rattle.walking.specs.Scratch.{EVENTS, STEPS}
+use Rattle.walking.specs.Access.{WORDS, OnlyIn}
+use Rattle.walking.specs.Scratch.{countOf}
+use Rattle.events.specs.Thinning.{retimed}
+use Rattle.events.specs.Linking.{placeIn, placesIn}
+
+-- The words of the list of steps from number `from` to number `to`, the second not included.
+abbrev pub wordsBetween : ℕ → ℕ → List ℕ → List ℕ
+wordsBetween from to w = slice (STEPS + from) (STEPS + to) w
+
+-- The list has room, and each of these words has a count of kept events below k.
+pub record Retimable (k from to : ℕ) (w : List ℕ) : Type 0 where
+  pub room : WORDS ≤ length w
+  pub few : k ≤ 129
+  pub order : from ≤ to
+  pub short : to ≤ 512
+  pub counts : (j : ℕ) → from ≤ j → j < to → countOf (getD w (STEPS + j) 0) < k
+
+-- Their steps are retimed by the places of the k events from EVENTS on, and no other word has changed.
+pub record Retimed (k from to : ℕ) (w w' : List ℕ) : Type 0 where
+  pub frame : OnlyIn (STEPS + from) (STEPS + to) w w'
+  pub steps : map stepOfWord (wordsBetween from to w')
+      ≡ retimed (placesIn w k) (map stepOfWord (wordsBetween from to w))
+
+-- The step with another count of events before it.
+abbrev pub withCount : ℕ → Step → Step
+withCount n p = record { before = n; location = p .location; machine = p .machine }
+
+-- The word r has the step of the word v, with the place of the event that its count numbers for the count.
+abbrev pub WordRetimed : List ℕ → ℕ → ℕ → Type 0
+WordRetimed w v r = stepOfWord r ≡ withCount (placeIn EVENTS w (countOf v)) (stepOfWord v)

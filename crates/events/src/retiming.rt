@@ -1,0 +1,32 @@
+// The counts of kept events in the words of steps, made places of the log.
+use walking::scratch::EVENTS;
+use walking::scratch::STEPS;
+ghost use Prim.Native.Nat.{_≤_, _<_};
+ghost use lib.ListN.{length};
+ghost use Rattle.walking.specs.Access.{WORDS, MOST};
+ghost use Rattle.walking.specs.Scratch.{countOf};
+ghost use Rattle.events.specs.Retiming.{Retimable, Retimed, WordRetimed};
+
+// The word of a step, with the place of the kept event that comes next for the count of those before.
+fn retimed_word(w: &[u64], v: u64) -> u64
+    requires { ⌜ (WORDS ≤ length (now w)) × (countOf v < MOST) ⌝ }
+    ensures { λ r. ⌜ WordRetimed (now (w .entry)) v r ⌝ }
+{
+    let count = v % 256;
+    let place = w[EVENTS + 2 * (count as usize)] / 16777216 % 256;
+    v - count + place
+}
+
+// Retimes the steps from number `from` to number `to`, the second not included, by the places of the kept
+// events, of which there are `events`.
+pub fn retime(w: &mut [u64], events: usize, from: usize, to: usize)
+    requires { ⌜ Retimable events from to (now w) ⌝ }
+    ensures { λ _. ⌜ Retimed events from to (now (w .entry)) (now (w .exit)) ⌝ }
+{
+    let mut j = from;
+    while j < to {
+        let v = w[STEPS + j];
+        w[STEPS + j] = retimed_word(&*w, v);
+        j += 1;
+    }
+}

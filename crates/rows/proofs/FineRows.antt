@@ -1,0 +1,67 @@
+-- What a set made by `&` or `|` has, and what a row has, by what the sets that they are made of have.
+use Prim.Native.Nat.{ℕ}
+use mathlib.Core.Path.{_≡_, sym}
+use mathlib.Core.Logic.{_≢_, _⊎_, inl, inr, ⊎-elim, ⊎-map}
+use mathlib.Core.Logic.{_↔_, Iff·rfl, Iff·symm, Iff·trans, Iff·and}
+use lib.Bits.{bitAnd, bitOr}
+use Rattle.model.specs.Cxl0.{Value}
+use Rattle.masks.specs.Sets.{In, Exactly}
+use Rattle.masks.proofs.Sets.{in-none, in-and, in-or}
+use Rattle.rows.specs.declared.Row.{Row}
+use Rattle.rows.specs.Rows.{Fine, RowOf}
+
+abbrev pub row : ℕ → ℕ → Value → Row
+row a o w = record { any = a; one = o; value = w }
+
+sum-iff : {A B C D : Type 0} → A ↔ C → B ↔ D → (A ⊎ B) ↔ (C ⊎ D)
+unfolding ⊎-map
+sum-iff h k = (⊎-map (h .0) (k .0), ⊎-map (h .1) (k .1))
+
+module _ (a b : ℕ) (P Q : ℕ → Type 0) (p : Exactly a P) (q : Exactly b Q) where
+  -- The codes of both sets, and those of one set or the other.
+  pub exactly-and : Exactly (bitAnd a b) (λ c. P c × Q c)
+  exactly-and c h = Iff·trans (in-and a b c) (Iff·and (p c h) (q c h))
+
+  pub exactly-or : Exactly (bitOr a b) (λ c. P c ⊎ Q c)
+  exactly-or c h = Iff·trans (in-or a b c) (sum-iff (p c h) (q c h))
+
+  -- The row of both sets has the codes with P at every memory value, and those with Q at its own value.
+  pub row-of : (w : Value) → RowOf (λ c m. P c ⊎ (Q c × (m ≡ w))) (row a b w)
+  row-of w c m h = Iff·symm (sum-iff (p c h) (Iff·and (q c h) Iff·rfl))
+
+-- A row whose sets have the codes with P that `to` takes into the sets of `rest` has the states with P that
+-- `to` takes into `rest`.
+pub row-if : (P : ℕ → Type 0) (to : ℕ → ℕ) (rest : Row) (a o : ℕ)
+    → Exactly a (λ c. In (to c) (rest .any) × P c) → Exactly o (λ c. In (to c) (rest .one) × P c)
+    → RowOf (λ c m. P c × Fine rest (to c) m) (row a o (rest .value))
+row-if P to rest a o any one c m h = (
+  λ p. ⊎-elim (λ q. inl (any c h .1 (q, p .0))) (λ q. inr (one c h .1 (q .0, p .0), q .1)) (p .1),
+  ⊎-elim
+      (λ p. let q = any c h .0 p in (q .1, inl (q .0)))
+      (λ p. let q = one c h .0 (p .0) in (q .1, inr (q .0, p .1))),
+)
+
+-- A row with no code in `one` has the codes of `any` at every memory value.
+pub row-any : (a w : ℕ) → RowOf (λ c m. In c a) (row a 0 w)
+row-any a w c m h = (inl, ⊎-elim (λ p. p) (λ p. absurd (in-none c (p .0))))
+
+-- A row of the codes of a set that has exactly those with P.
+pub any-of : (a : ℕ) (P : ℕ → Type 0) (r : Row) → Exactly a P → RowOf (λ c m. In c a) r → RowOf (λ c m. P c) r
+any-of a P r p q c m h = Iff·trans (Iff·symm (p c h)) (q c m h)
+
+-- A row with no code in `any` or `one` has no state.
+pub row-none : (rest : Row) → bitOr (rest .any) (rest .one) ≡ 0 → (c m : ℕ) → ¬ Fine rest c m
+row-none rest e c m f =
+    in-none c (rw e at (in-or (rest .any) (rest .one) c .1 (⊎-elim inl (λ j. inr (j .0)) f)))
+
+module _ (rest : Row) (m : Value) where
+  -- The codes that a row has at its own value, and those that it has at another one.
+  pub codes-at : rest .value ≡ m → Exactly (bitOr (rest .any) (rest .one)) (λ c. Fine rest c m)
+  codes-at e c h =
+      let union = in-or (rest .any) (rest .one) c in (
+        λ i. ⊎-elim inl (λ j. inr (j, sym e)) (union .0 i),
+        λ f. union .1 (⊎-elim inl (λ j. inr (j .0)) f),
+      )
+
+  pub codes-off : rest .value ≢ m → Exactly (rest .any) (λ c. Fine rest c m)
+  codes-off n c h = (inl, ⊎-elim (λ i. i) (λ j. absurd (n (sym (j .1)))))

@@ -1,0 +1,18 @@
+-- `search::table::all_if` meets its contract.
+use borrow.Author.Needs.{needs}
+use Rattle.rows.proofs.all_if.Statement.{statement}
+use Rattle.rows.proofs.all_if.Tie as tie
+
+all-requires : tie.Need-all-requires
+all-requires c κs = search needs
+
+only-if-requires : tie.Need-only-if-requires
+only-if-requires c κs = search needs
+
+returns : tie.Need-returns
+returns c t h =
+    let only = c .only-if .ensures t h in
+    (λ i. only .0 i .1, λ e. only .1 (c .before .all .ensures t h, e))
+
+pub all-if-spec : {M : Type 1} → statement M
+all-if-spec = tie.close (tie.spec all-requires only-if-requires returns)

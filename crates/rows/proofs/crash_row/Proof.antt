@@ -1,0 +1,54 @@
+-- `search::table::crash_row` meets its contract, where memory is cleared and where it is kept.
+use borrow.Author.Needs.{needs}
+use native.Mathlib.Nat.{lt-of-le-of-lt}
+use mathlib.Core.Logic.{Iff·trans}
+use Rattle.model.specs.Sharers.{remove}
+use Rattle.model.proofs.Sharers.{remove-le}
+use Rattle.rows.proofs.FineRows.{row-of, any-of}
+use Rattle.rows.proofs.crash_row.Statement.{statement}
+use Rattle.rows.proofs.crash_row.Tie as tie
+
+codes-requires : tie.Need-codes-requires
+codes-requires c κs = search needs
+
+losing-requires : tie.Need-losing-requires
+losing-requires c κs = search needs
+
+any-row-requires : tie.Need-any-row-requires
+any-row-requires c κs = search needs
+
+returns : tie.Need-returns
+returns c =
+    let i = c .before .before .before .before .args .i .0 in
+    let lost = c .before .losing in
+    let codes = c .before .before .codes in
+    rw (c .before .before .before .if1 .taken)
+    (any-of (lost .result) _ (c .any-row .result)
+    (λ d h. Iff·trans (lost .ensures d h) (codes .ensures (remove i d) (lt-of-le-of-lt (remove-le i d) h)))
+    (c .any-row .ensures))
+
+losing-requires-2 : tie.Need-losing-requires-2
+losing-requires-2 c κs = search needs
+
+losing-requires-3 : tie.Need-losing-requires-3
+losing-requires-3 c κs = search needs
+
+returns-2 : tie.Need-returns-2
+returns-2 c =
+    let rest = c .before .before .before .args .rest in
+    let any = c .before .losing2 in
+    let one = c .losing3 in
+    rw (c .before .before .if1 .left)
+    (row-of (any .result) (one .result) _ _ (any .ensures) (one .ensures) (rest .value))
+
+pub crash-row-spec : {M : Type 1} → statement M
+crash-row-spec =
+    tie.close
+    (tie.spec
+    codes-requires
+    losing-requires
+    any-row-requires
+    returns
+    losing-requires-2
+    losing-requires-3
+    returns-2)

@@ -1,0 +1,75 @@
+-- `search::table::load_row` meets its contract: the load reads memory, or the copies, or is not possible.
+use borrow.Author.Needs.{needs}
+use mathlib.Core.Path.{sym, _∙_}
+use mathlib.Core.Logic.{Iff·trans, Iff·and}
+use mathlib.Core.Bool.{true≢false}
+use borrow.Author.Tests.{eqb-true, eq-eqb}
+use Rattle.rows.specs.Rows.{Fine}
+use Rattle.rows.proofs.Loads.{from-memory, from-copies, from-nothing}
+use Rattle.rows.proofs.load_row.Statement.{statement}
+use Rattle.rows.proofs.load_row.Tie as tie
+
+fine-requires : tie.Need-fine-requires
+fine-requires c κs = search needs
+
+all-but-empty-requires : tie.Need-all-but-empty-requires
+all-but-empty-requires c κs = search needs
+
+only-if-requires : tie.Need-only-if-requires
+only-if-requires c κs = search needs
+
+single-requires : tie.Need-single-requires
+single-requires c κs = search needs
+
+abbrev start : tie.After-fine → tie.Start
+start h = h .before
+
+-- Where the test of code 0 fails, it is not fine.
+stuck : (h : tie.Else1) → ¬ Fine (start (h .before) .args .rest) 0 (start (h .before) .args .v)
+stuck h f = true≢false (sym (h .before .fine .ensures .1 f) ∙ h .if1 .left)
+
+returns : tie.Need-returns
+returns c sys x y =
+    let then = c .before .before .before in
+    let args = start (then .before) .args in
+    let pre = start (then .before) .pre in
+    let some = c .before .before .all-but-empty in
+    let only = c .before .only-if in
+    from-memory (args .rest) (args .i .0) (args .u) (args .v) (only .result) (c .single .result)
+    (pre .0) (pre .1) (then .before .fine .ensures .0 (then .if1 .taken))
+    (λ d h. Iff·trans (only .ensures d h) (Iff·and (some .ensures d h) (eqb-true _ _, eq-eqb _ _)))
+    (c .single .ensures)
+
+load-copies-row-requires : tie.Need-load-copies-row-requires
+load-copies-row-requires c κs = search needs
+
+returns-2 : tie.Need-returns-2
+returns-2 c sys x y =
+    let other = c .before .before in
+    let args = start (other .before) .args in
+    from-copies (args .rest) (args .i .0) (args .u) (args .v) (stuck other) (c .load-copies-row .result)
+    (c .before .if2 .taken) (c .load-copies-row .ensures)
+
+any-row-requires : tie.Need-any-row-requires
+any-row-requires c κs = search needs
+
+returns-3 : tie.Need-returns-3
+returns-3 c sys x y =
+    let other = c .before .before in
+    let args = start (other .before) .args in
+    from-nothing (args .rest) (args .i .0) (args .u) (args .v) (stuck other) (c .any-row .result)
+    (c .before .if2 .left) (c .any-row .ensures)
+
+pub load-row-spec : {M : Type 1} → statement M
+load-row-spec =
+    tie.close
+    (tie.spec
+    fine-requires
+    all-but-empty-requires
+    only-if-requires
+    single-requires
+    returns
+    load-copies-row-requires
+    returns-2
+    any-row-requires
+    returns-3)

@@ -1,0 +1,95 @@
+-- `search::table::row_before` meets its contract: each arm is a line of the table.
+use borrow.Author.Needs.{needs}
+use native.Mathlib.Omega.{arith}
+use Rattle.model.specs.Operations.{eventOf}
+use Rattle.rows.specs.Sites.{copyAfter}
+use Rattle.rows.proofs.Numbered.{at-crash}
+use Rattle.rows.proofs.row_before.Statement.{statement}
+use Rattle.rows.proofs.row_before.Tie as tie
+
+alone-requires : tie.Need-alone-requires
+alone-requires c κs = search needs
+
+store-row-requires : tie.Need-store-row-requires
+store-row-requires c κs = search needs
+
+alone-requires-2 : tie.Need-alone-requires-2
+alone-requires-2 c κs = search needs
+
+store-row-requires-2 : tie.Need-store-row-requires-2
+store-row-requires-2 c κs = search needs
+
+m-store-row-requires : tie.Need-m-store-row-requires
+m-store-row-requires c κs = search needs
+
+load-row-requires : tie.Need-load-row-requires
+unfolding eventOf copyAfter
+load-row-requires c κs =
+    let pre = c .before .before .pre in
+    (pre .1 .0, rw (c .match .keys4) at (pre .1 .1))
+
+l-flush-row-requires : tie.Need-l-flush-row-requires
+l-flush-row-requires c κs = search needs
+
+r-flush-row-requires : tie.Need-r-flush-row-requires
+r-flush-row-requires c κs = search needs
+
+crash-row-requires : tie.Need-crash-row-requires
+crash-row-requires c κs = search needs
+
+returns : tie.Need-returns
+unfolding eventOf
+returns c sys d =
+    let key = c .before .before .match .keys1 in
+    rw key (rw (c .before .alone .ensures .0) at (c .store-row .ensures))
+
+returns-2 : tie.Need-returns-2
+unfolding eventOf
+returns-2 c sys d =
+    let key = c .before .before .match .keys2 in
+    rw (key, d .owned) (rw (c .before .alone2 .ensures .0) at (c .store-row2 .ensures))
+
+returns-3 : tie.Need-returns-3
+unfolding eventOf
+returns-3 c sys d = rw (c .before .match .keys3) (c .m-store-row .ensures)
+
+returns-4 : tie.Need-returns-4
+unfolding eventOf
+returns-4 c sys d =
+    let a = c .before .before .before .args in
+    rw (c .before .match .keys4) (c .load-row .ensures sys (a .site .location .0) (a .e .location .0))
+
+returns-5 : tie.Need-returns-5
+unfolding eventOf
+returns-5 c sys d = rw (c .before .match .keys5) (c .l-flush-row .ensures)
+
+returns-6 : tie.Need-returns-6
+unfolding eventOf
+returns-6 c sys d = rw (c .before .match .keys6) (c .r-flush-row .ensures)
+
+returns-7 : tie.Need-returns-7
+returns-7 c sys d =
+    let e = c .before .before .before .before .before .before .args .e in
+    let crash = at-crash e (λ l h. omega arith) in
+    rw (crash, d .cleared (e .machine .0), d .begins) (c .crash-row .ensures)
+
+pub row-before-spec : {M : Type 1} → statement M
+row-before-spec =
+    tie.close
+    (tie.spec
+    alone-requires
+    store-row-requires
+    alone-requires-2
+    store-row-requires-2
+    m-store-row-requires
+    load-row-requires
+    l-flush-row-requires
+    r-flush-row-requires
+    crash-row-requires
+    returns
+    returns-2
+    returns-3
+    returns-4
+    returns-5
+    returns-6
+    returns-7)

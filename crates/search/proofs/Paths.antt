@@ -1,0 +1,183 @@
+-- Laws of the path: where it begins and stands, that it can be followed back, that it stays while the words it
+-- rests on do, and that a turn leads it on.
+use Prim.Native.Nat.{ℕ, suc, _+_, _≤_, _<_}
+use native.Mathlib.Nat.{eq-or-lt-of-le, le-refl, le-trans, le-of-suc-le-suc}
+use native.Mathlib.Omega.{arith}
+use mathlib.Core.Path.{_≡_, sym, ap, ap₂, _∙_, subst}
+use mathlib.Core.Logic.{⊎-elim}
+use mathlib.Core.List.{List, [], _∷_, _++_, map, map-append}
+use lib.ListN.{length, getD, length-append, length-map}
+use Rattle.model.specs.Cxl0.{Topology, event}
+use Rattle.model.specs.Schedule.{steps}
+use Rattle.model.specs.Words.{stepOfWord}
+use Rattle.rows.specs.declared.Site.{Site}
+use Rattle.rows.specs.Rows.{state}
+use Rattle.rows.specs.Sites.{Describes, copyFrom}
+use Rattle.walking.specs.declared.Place.{Place}
+use Rattle.walking.specs.Scratch.{ROWS, STEPS, PLACES, eventIn, eventsFrom, eventsIn, copyIn, placeIn}
+use Rattle.walking.specs.Access.{WORDS, MOST, OnlyIn, PlacePut}
+use Rattle.walking.specs.Scratch.{wordsAt}
+use Rattle.walking.specs.Trails.{stepAt, wordOf, RunsTo}
+use Rattle.walking.specs.Walks.{Turned}
+use Rattle.walking.proofs.Frames.{only-wider, getD-below, getD-above}
+use Rattle.walking.proofs.Events.{events-same, events-suc, events-length, copies-suc}
+use Rattle.walking.proofs.Segments.{words-from, words-two, words-kept, words-after}
+use Rattle.walking.proofs.Stored.{stored-only, stored-words}
+use Rattle.walking.proofs.StepArea.{event-kept, events-kept}
+use Rattle.walking.proofs.StepWords.{word-steps}
+use Rattle.search.specs.Paths.{Led, Path, start, more}
+use Rattle.search.proofs.Schedules.{leading-none, leading-more}
+
+module _ {s : Site} {base : ℕ} {w : List ℕ} where
+  -- A schedule leads to where the walk stands.
+  pub path-led : {t : ℕ} {p : Place} → Path s base w t p → Led s base w t p
+  unfolding eventsFrom copyFrom
+  path-led start =
+      record {
+        words = [];
+        few = omega arith;
+        here = omega arith;
+        list = words-from base 0 w;
+        leading = leading-none s;
+        fits = omega arith;
+      }
+  path-led (more path here far led) = led
+
+  -- The walk stood at each of the places before, where the steps end no later.
+  pub path-back : {t : ℕ} {p : Place} → Path s base w t p → (d : ℕ) → d < t
+      → Path s base w d (placeIn w d) × (placeIn w d .end ≤ p .end)
+  path-back start d h = absurd (omega arith)
+  path-back (more {t} {p} {q} path here far led) d h =
+      ⊎-elim
+      (λ e. subst (λ (k : ℕ). Path s base w k (placeIn w k) × (placeIn w k .end ≤ q .end)) (sym e)
+      (subst (λ (r : Place). Path s base w t r × (r .end ≤ q .end)) (sym here) (path, far)))
+      (λ b. (path-back path d b .0, le-trans (path-back path d b .1) far))
+      (eq-or-lt-of-le (le-of-suc-le-suc h))
+
+  -- The first place is that at the start.
+  pub path-first : {t : ℕ} {p : Place} → Path s base w t p → placeIn w t ≡ p
+      → placeIn w 0 ≡ record { code = 0; memory = s .initial; end = base }
+  path-first start e = e
+  path-first (more path here far led) e = path-first path here
+
+  -- The path stays if the events, its places and its steps do.
+  pub path-kept : {w' : List ℕ} {t : ℕ} {p : Place} → Path s base w t p
+      → ((d : ℕ) → d ≤ t → eventsIn w' d ≡ eventsIn w d)
+      → ((d : ℕ) → d < t → placeIn w' d ≡ placeIn w d)
+      → ((n : ℕ) → base + n ≤ p .end → wordsAt base n w' ≡ wordsAt base n w)
+      → Path s base w' t p
+  path-kept start events places words = start
+  path-kept (more {t} {p} {q} path here far led) events places words =
+      more {q = q}
+      (path-kept path (λ d h. events d (omega arith)) (λ d h. places d (omega arith))
+      (λ n h. words n (le-trans h far)))
+      (places t (omega arith) ∙ here)
+      far
+      (record {
+        words = led .words;
+        few = led .few;
+        here = led .here;
+        list = words (length (led .words)) (omega (arith, led .here)) ∙ led .list;
+        leading = rw (events (suc t) (le-refl (suc t))) (led .leading);
+        fits = led .fits;
+      })
+
+  -- The steps do not end before they begin.
+  pub path-end : {t : ℕ} {p : Place} → Path s base w t p → base ≤ p .end
+  path-end path = omega (arith, path-led path .here)
+
+-- Places stay if their words do.
+pub place-kept : (w w' : List ℕ) (d : ℕ) → getD w' (PLACES + d) 0 ≡ getD w (PLACES + d) 0
+    → placeIn w' d ≡ placeIn w d
+unfolding placeIn
+place-kept w w' d e = simp e
+
+-- The path stays where rows and copies change.
+pub path-rows : {s : Site} {base : ℕ} {w w' : List ℕ} {t : ℕ} {p : Place} → OnlyIn ROWS STEPS w w' → t ≤ MOST
+    → STEPS ≤ base → Path s base w t p → Path s base w' t p
+path-rows {base = base} {w} {w'} only few low path =
+    path-kept path
+    (λ d h. events-same only d (le-trans h few))
+    (λ d h. place-kept w w' d (getD-above only (PLACES + d) (omega arith)))
+    (λ n h. words-after only base n low)
+
+-- It stays where words are stored behind its end.
+pub path-steps : {s : Site} {base : ℕ} {w w' : List ℕ} {t : ℕ} {p : Place} → OnlyIn (p .end) PLACES w w'
+    → t ≤ MOST → STEPS ≤ base → Path s base w t p → Path s base w' t p
+path-steps {base = base} {w} {w'} only few low path =
+    path-kept path
+    (λ d h. events-same (only-wider only (omega (arith, path-end path)) (le-refl PLACES)) d (le-trans h few))
+    (λ d h. place-kept w w' d (getD-above only (PLACES + d) (omega arith)))
+    (λ n h. words-kept only base n h)
+
+-- It stays where a place is put after those before its events.
+pub path-place : {s : Site} {base : ℕ} {w w' : List ℕ} {t : ℕ} {p q : Place} → PlacePut w t q w' → t ≤ MOST
+    → p .end ≤ PLACES → STEPS ≤ base → Path s base w t p → Path s base w' t p
+path-place {base = base} {w} {w'} {t} put few far low path =
+    path-kept path
+    (λ d h. events-same (only-wider (put .frame) (omega arith) (le-refl (PLACES + t + 1))) d (le-trans h few))
+    (λ d h. place-kept w w' d (getD-below (put .frame) (PLACES + d) (omega arith)))
+    (λ n h. words-kept (put .frame) base n (omega arith))
+
+-- ---- one event more
+
+-- A turn leads from p over event t to q.
+module _ {s : Site} {t : ℕ} {p q : Place} {w w' : List ℕ} (turned : Turned s t p w q w') (few : t < MOST)
+    (room : WORDS ≤ length w) (far : q .end ≤ PLACES) (small : s .location .0 < 256)
+    (copies : copyIn w t ≡ copyFrom (s .location .0) 0 (eventsIn w t))
+    {base : ℕ} (low : STEPS ≤ base) (path : Path s base w t p) (here : placeIn w t ≡ p) where
+  -- It changes words behind the end of the path, which stays.
+  only : OnlyIn (p .end) PLACES w w'
+  only = stored-only (turned .noted) PLACES far
+
+  low-end : STEPS ≤ p .end
+  low-end = omega (arith, path-end path)
+
+  still : Path s base w' t p
+  still = path-steps only (omega arith) low path
+
+  -- The words of the turn follow those of the path.
+  new-words : wordsAt (p .end) (length (map (wordOf t (s .location .0)) (turned .machines))) w'
+      ≡ map (wordOf t (s .location .0)) (turned .machines)
+  new-words = rw (← turned .noted .here) (stored-words (turned .noted) (omega arith))
+
+  -- The turn runs from where the steps so far lead.
+  runs-more : (sys : Topology) → Describes sys s
+      → RunsTo sys (s .location .0)
+      (steps (map (stepAt t (s .location .0)) (turned .machines)) ++ event (eventIn w' t) ∷ [])
+      (state (p .code) (copyFrom (s .location .0) 0 (eventsIn w' t)) (p .memory))
+      (state (q .code) (copyFrom (s .location .0) 0 (eventsIn w' (suc t))) (q .memory))
+  runs-more =
+      let x = s .location .0 in
+      let copy : copyFrom x 0 (eventsIn w' t) ≡ copyIn w t =
+      ap (copyFrom x 0) (events-kept only low-end t (omega arith)) ∙ sym copies in
+      rw (copies-suc w' x t, copy, event-kept only low-end t few) (turned .runs)
+
+  -- So both are a schedule that leads to q.
+  led-more : Led s base w' (suc t) q
+  led-more =
+      let old = path-led still in
+      let x = s .location .0 in
+      let is = turned .machines in
+      let new = map (wordOf t x) is in
+      let after = subst (λ (n : ℕ). wordsAt n (length new) w' ≡ new) (old .here) new-words in
+      let both : map stepOfWord (old .words ++ new) ≡ map stepOfWord (old .words) ++ map (stepAt t x) is =
+      map-append stepOfWord (old .words) new ∙ ap (_++_ (map stepOfWord (old .words)))
+      (word-steps t x is (omega arith) small) in
+      record {
+        words = old .words ++ new;
+        few = rw (length-append, length-map) (omega (arith, old .few, turned .few));
+        here = rw length-append (omega (arith, old .here, turned .noted .here));
+        list = rw length-append
+            (words-two base (length (old .words)) (length new) w' ∙ ap₂ _++_ (old .list) after);
+        leading = rw (both, events-suc w' t)
+            (leading-more (old .leading) (eventIn w' t) t is (events-length w' t)
+            (rw (events-suc w' t) at runs-more));
+        fits = turned .fits;
+      }
+
+  -- The path goes on to q.
+  pub path-turned : Path s base w' (suc t) q
+  path-turned =
+      more {q = q} still (place-kept w w' t (getD-above only (PLACES + t) (omega arith)) ∙ here)
+      (omega (arith, turned .noted .here)) led-more

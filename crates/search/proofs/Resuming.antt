@@ -1,0 +1,152 @@
+-- The walk over rows again, event by event: after t events, the path leads over the place before event `from` to a
+-- place from which the rest of the events have a run.
+use Prim.Native.Nat.{ℕ, suc, _+_, _*_, _≤_, _<_}
+use native.Mathlib.Nat.{le-refl}
+use native.Mathlib.Numerals.{add-one}
+use native.Mathlib.Omega.{arith}
+use mathlib.Core.Path.{_≡_, ap, _∙_, sym}
+use mathlib.Core.List.{List}
+use lib.ListN.{length, drop, length-map}
+use Rattle.model.specs.Cxl0.{Topology}
+use Rattle.model.specs.OneLocation.{HasRunAt}
+use Rattle.rows.specs.declared.Site.{Site}
+use Rattle.rows.specs.Rows.{state}
+use Rattle.rows.specs.Sites.{Describes, copyAfter, copyFrom}
+use Rattle.walking.specs.declared.Place.{Place}
+use Rattle.walking.specs.Scratch.{STEPS, SORTED, PLACES, PLACES-END}
+use Rattle.walking.specs.Scratch.{eventIn, eventsIn, rowIn, copyIn, placeIn}
+use Rattle.walking.specs.Access.{WORDS, MOST, OnlyIn, PlacePut}
+use Rattle.walking.specs.Trails.{wordOf}
+use Rattle.walking.specs.Walks.{Standing, Turned}
+use Rattle.walking.proofs.Frames.{only-none, only-then, only-wider}
+use Rattle.walking.proofs.Events.{events-drop}
+use Rattle.walking.proofs.Stored.{stored-only}
+use Rattle.walking.proofs.StepArea.{event-kept, events-kept, row-kept, copy-kept}
+use Rattle.search.specs.Paths.{Path, Based, Resumable, Resumed}
+use Rattle.search.proofs.Backward.{copy-next}
+use Rattle.search.proofs.Paths.{path-led, path-end, path-place, path-turned}
+
+pub record Resuming (s : Site) (from m : ℕ) (w : List ℕ) (t : ℕ) (p : Place) (w' : List ℕ) : Type 0 where
+  pub early : from ≤ t
+  pub bound : t ≤ m
+  pub frame : OnlyIn (placeIn w from .end) PLACES-END w w'
+  pub far : placeIn w from .end ≤ p .end
+  pub path : (base : ℕ) → Based s base w from (placeIn w from) → Path s base w' t p
+  pub system : Topology
+  pub describes : Describes system s
+  pub runs : HasRunAt system (s .location .0) (drop t (eventsIn w m))
+      (state (p .code) (copyIn w t) (p .memory))
+
+module _ (s : Site) (from m : ℕ) (w : List ℕ) (can : Resumable s from m w) where
+  -- Before the first event.
+  pub resuming-none : Resuming s from m w from (placeIn w from) w
+  resuming-none =
+      record {
+        early = le-refl from;
+        bound = omega (arith, can .below);
+        frame = only-none (placeIn w from .end) PLACES-END w;
+        far = le-refl (placeIn w from .end);
+        path = λ base b. b .path;
+        system = can .system;
+        describes = can .describes;
+        runs = can .runs;
+      }
+
+  -- Before event t.
+  module _ (t : ℕ) (p : Place) (w' : List ℕ) (r : Resuming s from m w t p w') (h : t < m) where
+    few : t < MOST
+    few = omega (arith, can .ready .few)
+
+    low-from : STEPS ≤ placeIn w from .end
+    low-from = omega (arith, can .based .low, path-end (can .based .path))
+
+    -- The steps so far are at most six for each event.
+    pub resuming-short : p .end ≤ SORTED + 6 * t
+    resuming-short =
+        let led = path-led (r .path (can .base) (can .based)) in
+        omega (arith, led .here, led .few, can .based .high)
+
+    -- The place is put.
+    module _ {w1 : List ℕ} (put : PlacePut w' t p w1) where
+      -- The events, the rows and the copies are as they were.
+      frame-put : OnlyIn (placeIn w from .end) PLACES-END w w1
+      frame-put =
+          only-then (r .frame)
+          (only-wider (put .frame) (omega (arith, r .far, resuming-short, few)) (omega (arith, few)))
+
+      room-put : WORDS ≤ length w1
+      room-put = omega (arith, frame-put .sized, can .ready .room)
+
+      event-put : eventIn w1 t ≡ eventIn w t
+      event-put = event-kept frame-put low-from t few
+
+      row-put : rowIn w1 (suc t) ≡ rowIn w (suc t)
+      row-put = row-kept frame-put low-from (suc t) few
+
+      copy-put : copyIn w1 t ≡ copyIn w t
+      copy-put = copy-kept frame-put low-from t (omega (arith, few))
+
+      -- The copies after the event are those before the next.
+      copy-after : copyAfter (s .location .0) (copyIn w1 t) (eventIn w1 t) ≡ copyIn w (suc t)
+      copy-after = rw (copy-put, event-put) (copy-next (s .location .0) m w (can .ready .copies) t h)
+
+      -- A turn can be made.
+      pub resuming-stands : Standing s t p w1
+      resuming-stands =
+          let next = can .rows (suc t) (omega (arith, r .early)) h in
+          record {
+            steppable = record {
+              room = room-put;
+              few = few;
+              owner = can .ready .owner;
+              machine = rw event-put (can .ready .machines t h);
+              closed = rw (copy-after, row-put) (next .closed);
+            };
+            space = omega (arith, resuming-short, few);
+            fits = path-led (r .path (can .base) (can .based)) .fits;
+            system = r .system;
+            describes = r .describes;
+            rest = drop (suc t) (eventsIn w m);
+            right = rw (copy-after, row-put) (next .right (r .system) (r .describes));
+            runs = rw (copy-put, event-put, ← events-drop w t m h) (r .runs);
+          }
+
+      -- The turn is made.
+      pub resuming-more : s .location .0 < 256 → (q : Place) (w2 : List ℕ) → Turned s t p w1 q w2
+          → Resuming s from m w (t + 1) q w2
+      resuming-more small q w2 turned =
+          let x = s .location .0 in
+          let next = can .rows (suc t) (omega (arith, r .early)) h in
+          let right = next .right (r .system) (r .describes) (q .code) (q .memory) (turned .fits) in
+          let end : q .end ≤ PLACES =
+          omega (
+            arith,
+            turned .noted .here,
+            turned .few,
+            length-map (turned .machines) (wordOf t x),
+            resuming-short,
+            few,
+          ) in
+          let copies : copyIn w1 t ≡ copyFrom x 0 (eventsIn w1 t) =
+          copy-put ∙ can .ready .copies t (omega arith)
+          ∙ ap (copyFrom x 0) (sym (events-kept frame-put low-from t (omega (arith, few)))) in
+          rw (add-one t)
+          (record {
+            early = omega (arith, r .early);
+            bound = h;
+            frame = only-then frame-put
+                (only-wider (stored-only (turned .noted) PLACES end) (r .far) (omega arith));
+            far = omega (arith, r .far, turned .noted .here);
+            path = λ base b. path-turned turned few room-put end small copies (b .low)
+                (path-place put (omega (arith, few)) (omega (arith, resuming-short, few)) (b .low)
+                (r .path base b))
+                (put .stored);
+            system = r .system;
+            describes = r .describes;
+            runs = right .1 (rw row-put at (turned .fine));
+          })
+
+-- After the last event.
+pub resuming-all : {s : Site} {from m : ℕ} {w : List ℕ} {p : Place} {w' : List ℕ} → Resuming s from m w m p w'
+    → Resumed s from m w p w'
+resuming-all r = record { frame = r .frame; path = r .path }

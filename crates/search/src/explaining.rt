@@ -1,0 +1,148 @@
+// Explains the events at one location, one after the other. An event that is possible where the walk stands takes no
+// silent step. For one that is not, the rows before it say from which earlier place the walk can go on so that it is;
+// if from none, the events up to it have no run.
+//
+// Callers see to it that the scratch area has at least 4,096 words, at most 129 events and machines 1 to 6.
+use crate::passes::retrace;
+use model::Event;
+use rows::Site;
+use rows::concerned;
+use rows::copy_after;
+use walking::Place;
+use walking::holds;
+use walking::place_after;
+use walking::scratch::STEPS;
+use walking::scratch::get_copy;
+use walking::scratch::get_event;
+use walking::scratch::get_place;
+use walking::scratch::put_copy;
+use walking::scratch::put_place;
+use walking::turn;
+ghost use Prim.Native.Nat.{ℕ, _<_};
+ghost use mathlib.Core.Path.{_≡_};
+ghost use mathlib.Core.Bool.{true};
+ghost use mathlib.Core.Logic.{_↔_};
+ghost use lib.Dec.{T};
+ghost use Rattle.model.specs.Cxl0.{Topology, event};
+ghost use Rattle.model.specs.OneLocation.{eventAt, possibleAt};
+ghost use Rattle.masks.specs.Sets.{OneToSix};
+ghost use Rattle.rows.specs.Rows.{state};
+ghost use Rattle.rows.specs.Sites.{meant};
+ghost use Rattle.search.specs.Paths.{Resumable, Resumed, Stuck, Continuable, Onwards};
+ghost use Rattle.search.specs.Paths.{Explainable, Explained};
+
+// Where the walk stands after an event, unless the events up to it have no run.
+pub struct Onward {
+    pub found: bool,
+    pub place: Place,
+}
+
+// How many events have a run; if all have one, how many words the list of steps has with those of their schedule.
+pub struct Found {
+    pub events: usize,
+    pub steps: usize,
+}
+
+// The event of the site is possible where the walk stands and copies have the value u.
+fn possible(e: Event, u: u32, p: Place) -> bool
+    requires { ⌜ OneToSix (e .machine .0) ⌝ }
+    requires { ⌜ p .code < 64 ⌝ }
+    ensures { λ r. ⌜ ((sys : Topology) (x : ℕ) → T (eventAt x (meant e))
+        → (r ≡ true) ↔ T (possibleAt sys x (event (meant e)) (state (p .code) u (p .memory)))) ⌝ }
+{
+    let operation = e.operation;
+    match operation {
+        4 => if p.code == 0 {
+            p.memory == e.value
+        } else {
+            u == e.value
+        },
+        5 => !holds(p.code, e.machine),
+        6 => p.code == 0,
+        _ => true,
+    }
+}
+
+// Walks again from the place before event `from`, over the rows, to the end of the m events.
+fn resume(w: &mut [u64], site: Site, from: usize, m: usize) -> Place
+    requires { ⌜ Resumable site from m (now w) ⌝ }
+    ensures { λ p. ⌜ Resumed site from m (now (w .entry)) p (now (w .exit)) ⌝ }
+{
+    let mut p = get_place(&*w, from);
+    let mut t = from;
+    while t < m {
+        put_place(w, t, p);
+        p = turn(w, site, t, p);
+        t += 1;
+    }
+    p
+}
+
+// The place after event t, by going back and walking again, when the event is not possible where the walk stands.
+fn go_back(w: &mut [u64], site: Site, t: usize, p: Place) -> Onward
+    requires { ⌜ Stuck site t p (now w) ⌝ }
+    ensures { λ r. ⌜ Onwards site t p (now (w .entry)) r (now (w .exit)) ⌝ }
+{
+    let m = t + 1;
+    let from = retrace(w, site, m);
+    if from < m {
+        let place = resume(w, site, from, m);
+        return Onward { found: true, place };
+    }
+    Onward {
+        found: false,
+        place: p,
+    }
+}
+
+// The place after event t, when the walk stands at p before it.
+fn go_on(w: &mut [u64], site: Site, t: usize, p: Place) -> Onward
+    requires { ⌜ Continuable site t p (now w) ⌝ }
+    ensures { λ r. ⌜ Onwards site t p (now (w .entry)) r (now (w .exit)) ⌝ }
+{
+    let e = get_event(&*w, t);
+    let u = get_copy(&*w, t);
+    put_place(w, t, p);
+    put_copy(w, t + 1, copy_after(site, u, e));
+    if !concerned(site, e) {
+        return Onward {
+            found: true,
+            place: p,
+        };
+    }
+    if possible(e, u, p) {
+        let place = place_after(site, e, p);
+        return Onward { found: true, place };
+    }
+    go_back(w, site, t, p)
+}
+
+// How many of the events have a run at the site, and behind the `count` words of the list of steps a schedule for
+// them if all have one.
+pub fn explain(w: &mut [u64], site: Site, events: usize, count: usize) -> Found
+    requires { ⌜ Explainable site events count (now w) ⌝ }
+    ensures { λ r. ⌜ Explained site events count (now (w .entry)) r (now (w .exit)) ⌝ }
+{
+    put_copy(w, 0, 0);
+    let mut p = Place {
+        code: 0,
+        memory: site.initial,
+        end: STEPS + count,
+    };
+    let mut t: usize = 0;
+    while t < events {
+        let next = go_on(w, site, t, p);
+        if !next.found {
+            return Found {
+                events: t,
+                steps: count,
+            };
+        }
+        p = next.place;
+        t += 1;
+    }
+    Found {
+        events: t,
+        steps: p.end - STEPS,
+    }
+}

@@ -1,0 +1,80 @@
+-- `State::crashed` meets its contract. The loop's invariant: the entries before `at` are as the crash leaves
+-- them, and the others stand for what they stood for.
+use Prim.Native.Nat.{ℕ, _-_}
+use native.Mathlib.Omega.{arith}
+use mathlib.Core.Path.{_≡_, _∙_}
+use borrow.Author.Tests.{le-ltb}
+use lib.ListN.{length, length-set}
+use Rattle.states.specs.States.{entryAt}
+use Rattle.model.proofs.Tests.{nothing}
+use Rattle.model.proofs.Limits.{mapped}
+use Rattle.states.proofs.Settled.{forms}
+use Rattle.states.proofs.Crashes.{partly, turn, done}
+use Rattle.states.proofs.State.crashed.Statement.{statement}
+use Rattle.states.proofs.State.crashed.Tie as tie
+
+abbrev Inv-loop : tie.InvT-loop
+Inv-loop t i self₀ at₀ self at =
+    (length (self .entries) ≡ 32) × ((y : ℕ) → forms t self y ≡ partly t (i .0) self₀ at y)
+
+abbrev μ-loop : tie.MeasureT-loop
+μ-loop t i self₀ at₀ self at = 32 - at
+
+room : (c : tie.Start Inv-loop μ-loop) → length (c .args .t1 .entries) ≡ 32
+room c = search mapped
+
+loop-holds : tie.Need-loop-holds Inv-loop μ-loop
+loop-holds c = (room c, λ y. rw (le-ltb y 0 (omega arith)))
+
+mul-e : tie.Need-mul-e Inv-loop μ-loop
+mul-e c = omega arith
+
+element-copy-out-e : tie.Need-element-copy-out-e Inv-loop μ-loop
+element-copy-out-e c = omega arith
+
+cast-n : tie.Need-cast-n Inv-loop μ-loop
+cast-n c = omega arith
+
+mul-after : tie.Need-mul-after Inv-loop μ-loop
+mul-after c = omega arith
+
+element-set-from-after : tie.Need-element-set-from-after Inv-loop μ-loop
+element-set-from-after c = omega arith
+
+add-at : tie.Need-add-at Inv-loop μ-loop
+add-at c = omega arith
+
+loop-less : tie.Need-loop-less Inv-loop μ-loop
+loop-less c = omega arith
+
+loop-again : tie.Need-loop-again Inv-loop μ-loop
+unfolding entryAt
+loop-again c =
+    let h = c .before .before .before .before .args in
+    let l = c .before .before .before .loop in
+    let next = turn (h .t) (h .i .0) (h .t1) (l .self) (l .at) (l .inv .1) _ in
+    (length-set (l .self .entries) _ _ ∙ l .inv .0, next (omega (arith, l .inv .0)) (c .crashed .ensures))
+
+returns : tie.Need-returns Inv-loop μ-loop
+returns c =
+    let h = c .before .before in
+    let l = c .before .loop in
+    done (h .args .t) (h .args .i .0) (h .args .t1) (l .self) (l .at) (l .inv .1) (omega (arith, room h))
+
+pub crashed-spec : {M : Type 1} → statement M
+crashed-spec =
+    tie.close
+    (tie.spec
+    Inv-loop
+    μ-loop
+    loop-holds
+    mul-e
+    element-copy-out-e
+    cast-n
+    nothing
+    mul-after
+    element-set-from-after
+    add-at
+    loop-less
+    loop-again
+    returns)

@@ -1,0 +1,33 @@
+-- `entry` meets its contract.
+use mathlib.Core.Path.{_≡_, refl, sym}
+use lib.ListN.{length, List·getD-eq-default}
+use borrow.Author.Needs.{needs}
+use Rattle.states.specs.States.{entryAt}
+use Rattle.model.proofs.Limits.{mapped}
+use Rattle.states.proofs.State.entry.Statement.{statement}
+use Rattle.states.proofs.State.entry.Tie as tie
+
+room : (c : tie.Start) → length (c .args .t1 .entries) ≡ 32
+room c = search mapped
+
+cast-at : tie.Need-cast-at
+cast-at c = search needs
+
+mul-e : tie.Need-mul-e
+mul-e c = search needs
+
+element-copy-out-e : tie.Need-element-copy-out-e
+element-copy-out-e c = search needs
+
+returns : tie.Need-returns
+unfolding entryAt
+returns c = refl
+
+returns-2 : tie.Need-returns-2
+unfolding entryAt
+returns-2 c =
+    let h = c .before .before in
+    sym (List·getD-eq-default (h .args .t1 .entries) _ (rw (room h) (c .if1 .left)))
+
+pub entry-spec : {M : Type 1} → statement M
+entry-spec = tie.close (tie.spec cast-at mul-e element-copy-out-e returns returns-2)

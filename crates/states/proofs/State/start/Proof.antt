@@ -1,0 +1,35 @@
+-- `start` meets its contract.
+use Prim.Native.Nat.{ℕ, zero, suc, _^_}
+use native.Mathlib.Nat.{zero-mod}
+use mathlib.Core.Path.{_≡_, refl, sym, ap, _∙_, fun-ext}
+use lib.ListN.{getD, replicate}
+use Rattle.model.specs.Cxl0.{Location, initial}
+use Rattle.model.specs.OneLocation.{expand, startAt}
+use Rattle.model.specs.Meaning.{topologyOf}
+use Rattle.entries.specs.Entries.{localOf, emptyEntry}
+use Rattle.states.specs.States.{entryAt, stateOf}
+use Rattle.entries.specs.declared.Entry as entry
+use Rattle.model.specs.declared.Topology as topology
+use Rattle.model.proofs.Expand.{start-expand}
+use Rattle.states.proofs.State.start.Statement.{statement}
+use Rattle.states.proofs.State.start.Tie as tie
+
+same : (k x : ℕ) (e : entry.Entry) → getD (replicate k e) x e ≡ e
+same zero x e = refl
+same (suc k) zero e = refl
+same (suc k) (suc x) e = same k x e
+
+-- An empty entry stands for the short form that a location has at the start.
+none : (t : topology.Topology) (x : Location) → localOf (t .machines) emptyEntry ≡ startAt (topologyOf t) x
+unfolding localOf startAt initial
+none t x = λ i. record { code = zero-mod (2 ^ t .machines) i; copy = 0; memory = 0 }
+
+returns : tie.Need-returns
+unfolding stateOf entryAt
+returns c =
+    let t = c .args .t in
+    ap expand (fun-ext (λ x. ap (localOf (t .machines)) (same 32 x emptyEntry) ∙ none t x))
+    ∙ sym (start-expand (topologyOf t))
+
+pub start-spec : {M : Type 1} → statement M
+start-spec = tie.close (tie.spec returns)

@@ -1,0 +1,167 @@
+-- `turn` meets its contract.
+use Prim.Native.Nat.{suc}
+use native.Mathlib.Numerals.{add-one}
+use native.Mathlib.Omega.{arith}
+use mathlib.Core.Path.{_≡_, sym, ap, _∙_}
+use lib.Dec.{T}
+use borrow.Author.Needs.{needs}
+use Rattle.model.specs.Cxl0.{Topology}
+use Rattle.model.specs.OneLocation.{eventAt}
+use Rattle.model.proofs.Tests.{true→T, false→not}
+use Rattle.masks.specs.Sets.{OneToSix}
+use Rattle.rows.specs.Rows.{RowOf}
+use Rattle.rows.specs.Lines.{Line}
+use Rattle.rows.specs.Sites.{Describes, meant}
+use Rattle.walking.specs.Scratch.{eventIn, rowIn, copyIn}
+use Rattle.walking.proofs.Events.{meant-read, machine-read}
+use Rattle.walking.proofs.Turns.{turned-elsewhere, turn-enters, turned-here}
+use Rattle.walking.proofs.turn.Statement.{statement}
+use Rattle.walking.proofs.turn.Tie as tie
+
+get-event-requires : tie.Need-get-event-requires
+get-event-requires c κs = search needs
+
+concerned-requires : tie.Need-concerned-requires
+concerned-requires c κs = search needs
+
+get-copy-requires : tie.Need-get-copy-requires
+get-copy-requires c κs = search needs
+
+add-get-row : tie.Need-add-get-row
+add-get-row c = search needs
+
+get-row-requires : tie.Need-get-row-requires
+get-row-requires c κs = search needs
+
+-- The event that is read is event t, by one of machines 1 to 6.
+event : (h : tie.After-get-event) → let a : _ = h .before .before .before .args in
+    meant (h .get-event .result) ≡ eventIn (a .w .now) (a .t)
+event h =
+    let a = h .before .before .before .args in
+    meant-read (a .w .now) (a .t) (h .get-event .result) (h .get-event .ensures)
+
+machine : (h : tie.After-get-event) → OneToSix (h .get-event .result .machine .0)
+machine h =
+    let start = h .before .before .before in
+    let a = start .args in
+    rw (machine-read (a .w .now) (a .t) (h .get-event .result) (h .get-event .ensures))
+    (start .pre .steppable .machine)
+
+-- The test says whether it concerns the site.
+concerns : (h : tie.After-concerned) → let a : _ = h .before .before .before .before .args in
+    h .concerned .result ≡ eventAt (a .site .location .0) (eventIn (a .w .now) (a .t))
+concerns h =
+    let a = h .before .before .before .before .args in
+    h .concerned .ensures ∙ ap (eventAt (a .site .location .0)) (event (h .before))
+
+here : (h : tie.Then1) → let a : _ = h .before .before .before .before .before .args in
+    T (eventAt (a .site .location .0) (eventIn (a .w .now) (a .t)))
+here h = true→T (sym (concerns (h .before)) ∙ h .if1 .taken)
+
+-- The row that is read is the one after the event.
+row : (h : tie.After-get-row)
+    → let a : _ = h .before .before .before .before .before .before .before .before .before .args in
+    h .get-row .result ≡ rowIn (a .w .now) (suc (a .t))
+row h =
+    let a = h .before .before .before .before .before .before .before .before .before .args in
+    h .get-row .ensures ∙ ap (rowIn (a .w .now)) (add-one (a .t))
+
+get-event-requires-2 : tie.Need-get-event-requires-2
+get-event-requires-2 c κs = search needs
+
+-- The event that is read for the table is the same.
+again : (h : tie.After-get-event2)
+    → let r : _ = h .before .before .before .before .before .before .before .before in
+    h .get-event2 .result ≡ r .get-event .result
+again h =
+    let read = h .before .before .before .before .before .before .before .before in
+    h .get-event2 .ensures ∙ sym (read .get-event .ensures)
+
+row-before-requires : tie.Need-row-before-requires
+row-before-requires c κs =
+    let after = c .before .before in
+    let copy = after .before .before in
+    let read = copy .before .before .before .before in
+    let asked = read .before .before .before .pre .steppable in
+    rw (again c)
+    (asked .owner, (machine read, rw (event read, copy .get-copy .ensures, row after) (asked .closed)))
+
+-- The row before it is the table's.
+line : (h : tie.After-row-before)
+    → let r : _ = h .before .before .before .before .before .before .before .before .before in
+    let a : _ = r .before .before .before .args in
+    (sys : Topology) → Describes sys (a .site)
+    → RowOf
+    (λ c m. Line sys (a .site .location .0) (eventIn (a .w .now) (a .t)) (copyIn (a .w .now) (a .t))
+    (rowIn (a .w .now) (suc (a .t))) c m)
+    (h .row-before .result)
+line h =
+    let after = h .before .before .before in
+    let copy = after .before .before in
+    let read = copy .before .before .before .before in
+    rw (again (h .before), event read, copy .get-copy .ensures, row after) at (h .row-before .ensures)
+
+gap-requires : tie.Need-gap-requires
+gap-requires c κs =
+    let h = c .before in
+    let copy = h .before .before .before .before .before in
+    let then = copy .before .before in
+    let start = then .before .before .before .before .before in
+    let a = start .args in
+    let stands = start .pre in
+    let inner = h .row-before .result in
+    let enters = turn-enters (a .site) (a .t) (a .p) (a .w .now) stands inner (here then) (line h) in
+    let read = copy .get-copy .ensures in
+    ((omega arith, omega arith), (stands .steppable .owner, (stands .fits, rw read enters)))
+
+place-after-requires : tie.Need-place-after-requires
+place-after-requires c κs =
+    let gap = c .before .before in
+    let table = gap .before .before in
+    let read = table .before .before .before .before .before .before .before .before .before in
+    (read .before .before .before .pre .steppable .owner, (machine read, gap .gap .ensures .0 .fits))
+
+same-length : tie.Need-same-length
+same-length c = search needs
+
+returns : tie.Need-returns
+returns c =
+    let gap = c .before .before .before in
+    let h = gap .before .before in
+    let copy = h .before .before .before .before .before in
+    let then = copy .before .before in
+    let start = then .before .before .before .before .before in
+    let a = start .args in
+    let inner = h .row-before .result in
+    let moved = rw (copy .get-copy .ensures) at (gap .gap .ensures .0) in
+    rw (c .place-after .ensures, event (then .before .before))
+    (turned-here (a .site) (a .t) (a .p) (a .w .now) (start .pre) inner (here then) (line h)
+    (gap .gap .result) (gap .gap .last .0) moved (gap .gap .ensures .1))
+
+same-length-2 : tie.Need-same-length-2
+same-length-2 c = search needs
+
+returns-2 : tie.Need-returns-2
+returns-2 c =
+    let start = c .before .before .before .before .before in
+    let a = start .args in
+    let away = false→not (sym (concerns (c .before)) ∙ c .if1 .left) in
+    turned-elsewhere (a .site) (a .t) (a .p) (a .w .now) (start .pre) away
+
+pub turn-spec : {M : Type 1} → statement M
+turn-spec =
+    tie.close
+    (tie.spec
+    get-event-requires
+    concerned-requires
+    get-copy-requires
+    add-get-row
+    get-row-requires
+    get-event-requires-2
+    row-before-requires
+    gap-requires
+    place-after-requires
+    same-length
+    returns
+    same-length-2
+    returns-2)

@@ -1,0 +1,211 @@
+// The walk of one location over rows: before each event, the silent steps that lead to a state from which the event
+// is possible and the events after it can be finished.
+//
+// Callers see to it that the rows are there and that the events have a run from the place where the walk begins.
+use crate::scratch::get_copy;
+use crate::scratch::get_event;
+use crate::scratch::get_row;
+use masks::alone;
+use masks::lowest;
+use model::Event;
+use model::Machine;
+use moves::reach;
+use rows::Row;
+use rows::Site;
+use rows::codes;
+use rows::concerned;
+use rows::fine;
+use rows::row_before;
+ghost use Prim.Native.Nat.{_+_, _≤_, _<_};
+ghost use mathlib.Core.Path.{_≡_};
+ghost use mathlib.Core.Logic.{_≢_};
+ghost use lib.ListN.{length};
+ghost use Rattle.model.specs.Sharers.{has};
+ghost use Rattle.masks.specs.Sets.{OneToSix};
+ghost use Rattle.rows.specs.Rows.{Fine};
+ghost use Rattle.rows.specs.Sites.{meant};
+ghost use Rattle.walking.specs.Stored.{Stored};
+ghost use Rattle.walking.specs.Trails.{oneIf, givesUp, leaving, wordOf};
+ghost use Rattle.walking.specs.Places.{codeAfter, memoryAfter, placeAfter};
+ghost use Rattle.walking.specs.Walks.{Noted, Enters, Moved, Standing, Turned};
+
+pub mod scratch;
+
+// Where the walk stands: the code and the memory value of the location, and where the list of steps ends.
+pub struct Place {
+    pub code: u8,
+    pub memory: u32,
+    pub end: usize,
+}
+
+// The word of a step of the site after t events, by machine i, or 0 for a write-back.
+fn word(site: Site, t: usize, i: u8) -> u64
+    requires { ⌜ t < 256 ⌝ }
+    ensures { λ r. ⌜ r ≡ wordOf t (site .location .0) i ⌝ }
+{
+    t as u64 + 256 * (site.location.0 as u64) + 65536 * (i as u64)
+}
+
+// Stores a word where the test holds, and hands back the place after it.
+fn put_if(w: &mut [u64], at: usize, yes: bool, word: u64) -> usize
+    requires { ⌜ at < length (now w) ⌝ }
+    ensures { λ r. ⌜ Stored (now (w .entry)) at (oneIf yes word) (now (w .exit)) r ⌝ }
+{
+    if yes {
+        w[at] = word;
+        return at + 1;
+    }
+    at
+}
+
+// Machine i is in the set of code c.
+pub fn holds(c: u8, i: Machine) -> bool
+    requires { ⌜ (c < 64) × OneToSix (i .0) ⌝ }
+    ensures { λ r. ⌜ r ≡ has (i .0) c ⌝ }
+{
+    c & alone(i) != 0
+}
+
+// Machine i gives its copy up to the owner, between code c and code d.
+fn gives_up(site: Site, c: u8, d: u8, i: Machine) -> bool
+    requires { ⌜ (c < 64) × (d < 64) ⌝ }
+    requires { ⌜ OneToSix (i .0) ⌝ }
+    ensures { λ r. ⌜ r ≡ givesUp (site .owner .0) c d (i .0) ⌝ }
+{
+    (i.0 != site.owner.0) & (holds(c, i) & !holds(d, i))
+}
+
+// The moves of the machines that give up their copies between code c and code d, in rising order.
+fn move_to(w: &mut [u64], at: usize, site: Site, t: usize, c: u8, d: u8) -> usize
+    requires { ⌜ (at + 6 ≤ length (now w)) × (t < 256) ⌝ }
+    requires { ⌜ (c < 64) × (d < 64) ⌝ }
+    ensures { λ r. ⌜ Noted site t (leaving (site .owner .0) c d 6) (now (w .entry)) at (now (w .exit)) r ⌝ }
+{
+    let mut to = at;
+    for i in 1..7u8 {
+        to = put_if(w, to, gives_up(site, c, d, Machine(i)), word(site, t, i));
+    }
+    to
+}
+
+// A write-back of copies of the value u, after a move of the least machine that has one if the owner has none.
+fn write_back(w: &mut [u64], site: Site, t: usize, u: u32, p: Place) -> Place
+    requires { ⌜ (p .end + 2 ≤ length (now w)) × (t < 256) ⌝ }
+    requires { ⌜ OneToSix (site .owner .0) ⌝ }
+    requires { ⌜ (p .code < 64) × (p .code ≢ 0) ⌝ }
+    ensures { λ r. ⌜ Moved site t u p (now (w .entry)) r (now (w .exit)) ⌝ }
+    ensures { λ r. ⌜ (r .code ≡ 0) × (r .memory ≡ u) ⌝ }
+{
+    let c = p.code;
+    let first = lowest(c as u64) + 1;
+    let owned = holds(c, site.owner);
+    let to = put_if(w, p.end, !owned, word(site, t, first));
+    let end = put_if(w, to, true, word(site, t, 0));
+    Place {
+        code: 0,
+        memory: u,
+        end: end,
+    }
+}
+
+// The silent steps before event t, in which copies have the value u: none if the row has the place, else moves
+// to the least code that they reach and the row has, else a write-back. No moves reach code 0, so that a row
+// with no other code takes a write-back.
+fn gap(w: &mut [u64], site: Site, t: usize, u: u32, row: Row, p: Place) -> Place
+    requires { ⌜ (p .end + 6 ≤ length (now w)) × (t < 256) ⌝ }
+    requires { ⌜ OneToSix (site .owner .0) ⌝ }
+    requires { ⌜ (p .code < 64) × Enters (site .owner .0) u row (p .code) (p .memory) ⌝ }
+    ensures { λ r. ⌜ Moved site t u p (now (w .entry)) r (now (w .exit)) × Fine row (r .code) (r .memory) ⌝ }
+{
+    if fine(row, p.code, p.memory) {
+        return p;
+    }
+    let wanted = codes(row, p.memory);
+    if wanted < 2 {
+        return write_back(w, site, t, u, p);
+    }
+    let there = reach(site.owner, p.code) & wanted;
+    if there != 0 {
+        let d = lowest(there);
+        let end = move_to(w, p.end, site, t, p.code, d);
+        return Place {
+            code: d,
+            memory: p.memory,
+            end: end,
+        };
+    }
+    write_back(w, site, t, u, p)
+}
+
+// The code after an event of the site.
+fn code_after(site: Site, e: Event, c: u8) -> u8
+    requires { ⌜ OneToSix (site .owner .0) ⌝ }
+    requires { ⌜ OneToSix (e .machine .0) ⌝ }
+    requires { ⌜ c < 64 ⌝ }
+    ensures { λ r. ⌜ r ≡ codeAfter (site .owner .0) (meant e) c ⌝ }
+{
+    let operation = e.operation;
+    let i = e.machine;
+    match operation {
+        1 => alone(i),
+        2 => alone(site.owner),
+        3 => 0,
+        4 => if c == 0 { 0 } else { c | alone(i) },
+        5 => c,
+        6 => c,
+        _ => c & !alone(i),
+    }
+}
+
+// The memory value after an event of the site.
+fn memory_after(site: Site, e: Event, m: u32) -> u32
+    ensures { λ r. ⌜ r ≡ memoryAfter site (meant e) m ⌝ }
+{
+    let operation = e.operation;
+    match operation {
+        1 => m,
+        2 => m,
+        3 => e.value,
+        4 => m,
+        5 => m,
+        6 => m,
+        _ => if (site.owner.0 == e.machine.0) & site.volatile {
+            site.initial
+        } else {
+            m
+        },
+    }
+}
+
+// The place after an event of the site.
+pub fn place_after(site: Site, e: Event, p: Place) -> Place
+    requires { ⌜ OneToSix (site .owner .0) ⌝ }
+    requires { ⌜ OneToSix (e .machine .0) ⌝ }
+    requires { ⌜ p .code < 64 ⌝ }
+    ensures { λ r. ⌜ r ≡ placeAfter site (meant e) p ⌝ }
+{
+    let code = code_after(site, e, p.code);
+    let memory = memory_after(site, e, p.memory);
+    Place {
+        code: code,
+        memory: memory,
+        end: p.end,
+    }
+}
+
+// One event, with the silent steps before it.
+pub fn turn(w: &mut [u64], site: Site, t: usize, p: Place) -> Place
+    requires { ⌜ Standing site t p (now w) ⌝ }
+    ensures { λ r. ⌜ Turned site t p (now (w .entry)) r (now (w .exit)) ⌝ }
+{
+    let e = get_event(&*w, t);
+    if concerned(site, e) {
+        let u = get_copy(&*w, t);
+        let rest = get_row(&*w, t + 1);
+        // The event is read again for the table, which is quicker than handing on e.
+        let row = row_before(site, get_event(&*w, t), u, rest);
+        let q = gap(w, site, t, u, row, p);
+        return place_after(site, e, q);
+    }
+    p
+}
