@@ -3,8 +3,8 @@ pub mod Places
 pub mod Leading
 pub mod LogWords
 pub mod FieldBytes
-pub mod LoggingLoop
 pub mod LinkTurns
-pub mod LinkingLoop
+pub mod DecodeTurns
+pub mod LoadingLoop
 pub mod Copies
 pub mod PickingLoop

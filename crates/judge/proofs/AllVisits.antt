@@ -14,8 +14,8 @@ use Rattle.walking.specs.Scratch.{STEPS, eventsIn}
 use Rattle.walking.specs.Access.{OnlyIn}
 use Rattle.walking.proofs.Frames.{only-none, only-then, getD-above}
 use Rattle.walking.proofs.Events.{events-length}
-use Rattle.events.specs.Linking.{LOG, HEADS, Linked}
-use Rattle.judge.specs.Visiting.{logged, Loaded, Visited, Visitable, Visits}
+use Rattle.events.specs.Linking.{LOG, HEADS, logged, Linked}
+use Rattle.judge.specs.Visiting.{Loaded, Visited, Visitable, Visits}
 use Rattle.judge.specs.declared.visiting.Progress.{Progress}
 use Rattle.judge.proofs.Gathering.{gathered-none}
 

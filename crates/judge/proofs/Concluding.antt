@@ -27,10 +27,10 @@ use Rattle.search.specs.Ordering.{ordered}
 use Rattle.search.proofs.Ordering.{ordered-run, ordered-inOrder}
 use Rattle.sorting.specs.SortedWords.{Listed, Ordered}
 use Rattle.sorting.proofs.SortedWords.{listed-steps, ordered-steps}
-use Rattle.events.specs.Linking.{LOG}
+use Rattle.events.specs.Linking.{LOG, logged}
 use Rattle.judge.specs.Gathering.{Gathered}
 use Rattle.judge.specs.Parts.{Arranged}
-use Rattle.judge.specs.Visiting.{logged, Loaded, Visits}
+use Rattle.judge.specs.Visiting.{Loaded, Visits}
 use Rattle.judge.specs.declared.visiting.Progress.{Progress}
 use Rattle.judge.proofs.Fitting.{run-fits, words-fit}
 use Rattle.judge.proofs.NamedEvents.{named-take}

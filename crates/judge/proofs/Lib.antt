@@ -12,7 +12,6 @@ pub mod Extending
 pub mod Visits
 pub mod AllVisits
 pub mod NamedLocations
-pub mod Loads
 pub mod Concluding
 pub mod Issuing
 pub mod Soundness

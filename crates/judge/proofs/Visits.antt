@@ -29,11 +29,11 @@ use Rattle.search.specs.declared.explaining.Found.{Found}
 use Rattle.search.specs.Paths.{Explainable, Explained}
 use Rattle.search.proofs.Prefixes.{has-run-at-prefix}
 use Rattle.events.specs.Thinning.{Leads, retimed}
-use Rattle.events.specs.Linking.{LOG, placeIn, placesIn, Linked, Picked}
+use Rattle.events.specs.Linking.{LOG, placeIn, placesIn, logged, Linked, Picked}
 use Rattle.events.specs.Retiming.{Retimable, Retimed}
 use Rattle.events.proofs.Retimings.{places-at}
 use Rattle.judge.specs.Gathering.{Gathered}
-use Rattle.judge.specs.Visiting.{logged, Visitable, Visits}
+use Rattle.judge.specs.Visiting.{Visitable, Visits}
 use Rattle.judge.specs.declared.visiting.Progress.{Progress}
 use Rattle.judge.proofs.Described.{described}
 use Rattle.judge.proofs.NamedEvents.{named-take}

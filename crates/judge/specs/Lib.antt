@@ -2,6 +2,5 @@ pub mod Clearing
 pub mod Parts
 pub mod Gathering
 pub mod Visiting
-pub mod Loading
 pub mod Judging
 pub mod Settling

@@ -4,23 +4,19 @@ use Prim.Native.Nat.{ℕ, suc, _≤_, _<_}
 use mathlib.Core.Path.{_≡_}
 use mathlib.Core.List.{List, map}
 use lib.Dec.{T}
-use lib.ListN.{length, take, drop}
+use lib.ListN.{length, take}
 use Rattle.model.specs.Cxl0.{Location, isLocation, Event, event, allNamed}
 use Rattle.model.specs.OneLocation.{startAt, HasRunAt}
 use Rattle.model.specs.Meaning.{topologyOf, withinLimits}
 use Rattle.model.specs.declared.Topology as topology
-use Rattle.walking.specs.Scratch.{STEPS, eventsIn}
+use Rattle.walking.specs.Scratch.{STEPS}
 use Rattle.walking.specs.Access.{OnlyIn}
 use Rattle.walking.specs.Scratch.{wordsAt, stepsAt}
-use Rattle.events.specs.Linking.{LOG, Linked}
+use Rattle.events.specs.Linking.{LOG, logged, Linked}
 use Rattle.judge.specs.Gathering.{Gathered}
 use Rattle.judge.specs.declared.visiting.Progress.{Progress}
 
--- The n events of the log in the area.
-abbrev pub logged : ℕ → List ℕ → List Event
-logged n w = eventsIn (drop LOG w) n
-
--- They are there with their links, and are events of the system, which is within the limits.
+-- The log is in the area with its links, and its n events are events of the system, which is within the limits.
 pub record Loaded (t : topology.Topology) (n : ℕ) (w : List ℕ) : Type 0 where
   pub linked : Linked (logged n w) w
   pub limits : T (withinLimits t)

@@ -7,8 +7,7 @@ mod visiting;
 
 use clearing::clear;
 use cursors::opening::open;
-use events::logging::decode_log;
-use events::logging::link;
+use events::logging::load;
 use fields::Refusal;
 use log::Head;
 use reader::Reading;
@@ -20,7 +19,6 @@ ghost use mathlib.Core.Bool.{true};
 ghost use Rattle.log.specs.Records.{Records};
 ghost use Rattle.log.specs.Reading.{accepted, readLog};
 ghost use Rattle.log.specs.Answers.{headOf};
-ghost use Rattle.judge.specs.Loading.{Loadable, Loads};
 ghost use Rattle.judge.specs.Judging.{areasFit, outcomeOf, JudgesLog, Judges};
 
 // The fewest words of the scratch area.
@@ -32,15 +30,6 @@ pub enum Judged {
     Allowed(usize, usize),
     Impossible(u8, usize),
     Refused(Refusal),
-}
-
-// Puts the events of the log, from a position on, into the scratch area with their links.
-fn load(log: &[u8], at: usize, scratch: &mut [u64], events: usize)
-    requires { ⌜ Loadable (now log) at events (now scratch) ⌝ }
-    ensures { λ _. ⌜ Loads (now (log .entry)) at events (now (scratch .entry)) (now (scratch .exit)) ⌝ }
-{
-    decode_log(log, at, scratch, events);
-    link(scratch, events);
 }
 
 // The verdict on an accepted log.

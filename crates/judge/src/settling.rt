@@ -13,8 +13,9 @@ ghost use lib.ListN.{length};
 ghost use Rattle.model.specs.Meaning.{topologyOf};
 ghost use Rattle.verdict_file.specs.Files.{impossible};
 ghost use Rattle.verdict_file.specs.Writing.{allowedBy, writable, room};
+ghost use Rattle.events.specs.Linking.{logged};
 ghost use Rattle.judge.specs.Settling.{Issued, Settled};
-ghost use Rattle.judge.specs.Visiting.{logged, Loaded};
+ghost use Rattle.judge.specs.Visiting.{Loaded};
 
 // Writes the file that says impossible and tells of it.
 fn issue_impossible(out: &mut [u8], offset: usize, event: u8) -> Judged
