@@ -1,5 +1,5 @@
 -- The parts of an answer are read back from their bits: those of a packed answer are the answer's.
-use Prim.Native.Nat.{ℕ, _*_, _/_, _%_, _^_, _<_}
+use Prim.Native.Nat.{ℕ, _/_, _%_, _^_, _<_}
 use native.Mathlib.Omega.{arith}
 use mathlib.Core.Path.{_≡_}
 use Rattle.reader.specs.Answers.{holds}

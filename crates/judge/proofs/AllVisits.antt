@@ -1,11 +1,10 @@
 -- Visits one after the other, from none to all locations.
-use Prim.Native.Nat.{ℕ, suc, _+_, _*_, _≤_, _<_}
-use native.Mathlib.Nat.{le-refl}
+use Prim.Native.Nat.{ℕ, suc, _+_, _*_}
 use native.Mathlib.Omega.{arith}
-use mathlib.Core.Path.{_≡_, refl, ap}
-use mathlib.Core.List.{List, map}
+use mathlib.Core.Path.{_≡_, ap}
+use mathlib.Core.List.{List}
 use lib.Dec.{T}
-use lib.ListN.{length, take, drop}
+use lib.ListN.{drop}
 use lib.Seq.{slice-empty}
 use Rattle.model.specs.Cxl0.{Topology, isLocation, Event}
 use Rattle.model.specs.Meaning.{topologyOf}
@@ -15,7 +14,7 @@ use Rattle.walking.specs.Access.{OnlyIn}
 use Rattle.walking.proofs.Frames.{only-none, only-then, getD-above}
 use Rattle.walking.proofs.Events.{events-length}
 use Rattle.events.specs.Linking.{LOG, HEADS, logged, Linked}
-use Rattle.judge.specs.Visiting.{Loaded, Visited, Visitable, Visits}
+use Rattle.judge.specs.Visiting.{Loaded, Visitable, Visits}
 use Rattle.judge.specs.declared.visiting.Progress.{Progress}
 use Rattle.judge.proofs.Gathering.{gathered-none}
 

@@ -2,7 +2,7 @@
 use Prim.Native.Nat.{ℕ}
 use native.Mathlib.Omega.{arith}
 use mathlib.Core.Path.{_≡_, refl, sym, ap, _∙_}
-use mathlib.Core.Bool.{Bool, true, false, cond}
+use mathlib.Core.Bool.{Bool, true, false}
 use mathlib.Core.List.{List}
 use lib.ListN.{length, length-map}
 use Rattle.model.specs.Words.{stepOfWord}
@@ -13,7 +13,7 @@ use Rattle.verdict_file.specs.Answers as written
 use Rattle.verdict_file.specs.Answers.{writtenOf}
 use Rattle.verdict_file.specs.Writing.{allowedBy, answer, output}
 use Rattle.verdict_file.specs.declared.Written.{Written}
-use Rattle.judge.specs.Judging.{Answer, gives, refused, answerOf, told}
+use Rattle.judge.specs.Judging.{gives, refused, answerOf, told}
 use Rattle.judge.specs.Settling.{Issued}
 use Rattle.judge.specs.declared.Judged.{Judged}
 

@@ -1,11 +1,11 @@
 -- A sound verdict on a list of events, from its first impossible event or from a schedule.
-use Prim.Native.Nat.{ℕ, zero, suc, _+_, _-_, _≤_, _<_}
+use Prim.Native.Nat.{ℕ, zero, suc, _+_, _-_}
 use native.Mathlib.Nat.{zero-add, suc-add, add-sub-cancel-left}
 use native.Mathlib.Omega.{arith}
 use mathlib.Core.Path.{_≡_, sym}
 use mathlib.Core.Bool.{Bool, true, _&&_}
 use mathlib.Core.List.{List, [], _∷_}
-use lib.ListN.{length, take, drop}
+use lib.ListN.{take, drop}
 use lib.Seq.{take-nil}
 use Rattle.model.specs.Cxl0.{Topology, Event, FirstImpossible}
 use Rattle.verdict_file.specs.Files.{Verdict, impossible}

@@ -10,7 +10,7 @@ use Rattle.model.specs.Schedule.{weave}
 use Rattle.verdict_file.specs.Files.{Verdict, allowed, impossible, fileOf}
 use Rattle.verdict_file.specs.Writing.{put, output}
 use Rattle.verdict_file.specs.Schedules.{scheduleFits}
-use Rattle.judge.specs.Judging.{Answer, refused, answerOf, told}
+use Rattle.judge.specs.Judging.{refused, answerOf, told}
 use Rattle.judge.specs.declared.Judged as judged
 
 -- A verdict is sound for a list of events: its schedule makes a run of them, or its event is the first impossible one.

@@ -3,14 +3,14 @@ use Prim.Native.Nat.{ℕ, zero, suc, _+_, _/_, _%_, _≤_, _<_}
 use native.Mathlib.Nat.{not-suc-le-zero, lt-of-le-of-lt}
 use native.Mathlib.Omega.{arith}
 use mathlib.Core.Path.{_≡_, refl, sym, ap, _∙_}
-use mathlib.Core.Bool.{Bool, true, false, not, _&&_, _||_}
+use mathlib.Core.Bool.{not}
 use borrow.Author.Tests.{eq-eqb}
 use lib.Dec.{T, eqb, eqb→eq, eqb-refl}
 use Rattle.model.specs.Cxl0.{Machine}
 use Rattle.model.specs.Sharers.{has, insert, remove}
 use Rattle.model.specs.OneLocation.{moved, Moves, stay, move}
 use Rattle.model.proofs.Tests.{by-test, ne-test, or-l}
-use Rattle.model.proofs.Sharers.{has-insert, has-remove, insert-bound, remove-le, same-code}
+use Rattle.model.proofs.Sharers.{has-remove, insert-bound, remove-le}
 use Rattle.model.proofs.Expand.{has-insert-of}
 use Rattle.model.proofs.SilentSteps.{has→some}
 use Rattle.model.proofs.SomeSilent.{swap}

@@ -1,11 +1,11 @@
 -- One pass over the machines finds every code from which moves to the owner reach a set: moves of different
 -- machines commute, and no machine moves twice.
-use Prim.Native.Nat.{ℕ, _+_, _≤_, _<_}
+use Prim.Native.Nat.{ℕ, _+_, _<_}
 use native.Mathlib.Nat.{lt-of-le-of-lt}
 use native.Mathlib.Omega.{arith}
-use mathlib.Core.Path.{_≡_, refl}
+use mathlib.Core.Path.{_≡_}
 use mathlib.Core.Logic.{_⊎_, inl, inr, ⊎-elim, Iff·trans, Iff·and, Iff·rfl}
-use mathlib.Core.Bool.{Bool, true, false, not, _&&_, _||_}
+use mathlib.Core.Bool.{not, _&&_}
 use lib.Dec.{T, T-not, eqb, eqb→eq, eqb-refl}
 use lib.Bits.{bitOr}
 use Rattle.model.specs.Cxl0.{Machine}
@@ -14,7 +14,6 @@ use Rattle.model.specs.OneLocation.{moved, Moves, stay, move}
 use Rattle.model.proofs.Tests.{by-test, and-i, and-l, and-r, or-r, or-cases, ne-test}
 use Rattle.model.proofs.Sharers.{has-bound, remove-le}
 use Rattle.model.proofs.Expand.{has-insert-of}
-use Rattle.model.proofs.SilentSteps.{has-moved}
 use Rattle.model.proofs.SomeSilent.{movable, movable-moved}
 use Rattle.masks.specs.Sets.{In, Exactly, Leads, OneToSix}
 use Rattle.masks.proofs.Sets.{in-or}

@@ -1,10 +1,10 @@
 -- What `someMachine` and `everyMachine` say.
-use Prim.Native.Nat.{ℕ, zero, suc, _≤_, _<_}
+use Prim.Native.Nat.{ℕ, zero, suc, _≤_}
 use native.Mathlib.Omega.{arith}
-use mathlib.Core.Path.{_≡_, refl, sym, subst}
+use mathlib.Core.Path.{sym, subst}
 use mathlib.Core.Logic.{⊎-elim}
-use mathlib.Core.Bool.{Bool, true, false, not, _&&_, _||_}
-use lib.Dec.{T, T-not, eqb, eqb→eq, nltb→le}
+use mathlib.Core.Bool.{Bool, not}
+use lib.Dec.{T, T-not, eqb, eqb→eq}
 use native.Mathlib.Nat.{le-trans, not-suc-le-zero}
 use Rattle.model.specs.Cxl0.{Machine, someMachine, everyMachine}
 use Rattle.model.proofs.Tests.{and-l, and-r, and-i, or-l, or-r, or-cases, by-test, ne-test}

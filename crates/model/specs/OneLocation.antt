@@ -1,10 +1,10 @@
 -- What one location sees of the model: which machines hold a copy, the value of the copies, and the value in memory.
 -- The theorems carry statements on the whole system to statements on this short form and back.
-use Prim.Native.Nat.{ℕ, zero, suc, _<_, _^_}
+use Prim.Native.Nat.{ℕ}
 use mathlib.Core.Path.{_≡_}
-use mathlib.Core.Bool.{Bool, true, false, cond, not, _&&_}
+use mathlib.Core.Bool.{Bool, true, cond, not, _&&_}
 use mathlib.Core.List.{List, [], _∷_}
-use mathlib.Core.Option.{Option, none, some}
+use mathlib.Core.Option.{none, some}
 use lib.Dec.{T, eqb}
 use Rattle.model.specs.Cxl0.{Machine, Location, Value, Topology, owner, initial, State, clears, events}
 use Rattle.model.specs.Cxl0.{Event, LStore, RStore, MStore, Load, LFlush, RFlush, Crash}

@@ -1,6 +1,6 @@
 -- Schedules: the silent steps of a run as a verdict file lists them, and how a schedule and events make a run.
 use Prim.Native.Nat.{ℕ, zero, suc}
-use mathlib.Core.Bool.{Bool, true, false, cond, _&&_}
+use mathlib.Core.Bool.{Bool, true, cond, _&&_}
 use mathlib.Core.List.{List, [], _∷_, _++_, map}
 use lib.Dec.{leb}
 use Rattle.model.specs.Cxl0.{Location, Event, Silent, Propagate, WriteBack, Action, event, silent}

@@ -1,6 +1,6 @@
 -- Codes of sets of machines (document 01: holder sets): bit i - 1 of a code is set if machine i is in the set.
 use Prim.Native.Nat.{ℕ, zero, suc, _+_, _*_, _/_, _%_}
-use mathlib.Core.Bool.{Bool, true, false}
+use mathlib.Core.Bool.{Bool, false}
 use lib.Dec.{eqb}
 use Rattle.model.specs.Cxl0.{Machine}
 

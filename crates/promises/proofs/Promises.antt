@@ -10,7 +10,6 @@ use mathlib.Core.Logic.{_↔_}
 use mathlib.Core.Bool.{true, false}
 use mathlib.Core.List.{List, List·Memᴰ}
 use mathlib.Core.Option.{some}
-use lib.Dec.{T}
 use lib.ListN.{length, take, drop}
 use Rattle.model.specs.Cxl0.{Topology, WellFormed, start, Action, Run, HasRun, events, silents, count, isStore, isLoad}
 use Rattle.model.specs.Schedule.{Step, weave}

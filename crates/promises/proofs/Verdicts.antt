@@ -1,10 +1,10 @@
 -- What a right verdict says of a log, in both directions.
-use Prim.Native.Nat.{ℕ, zero, suc, _-_, _≤_, _<_}
+use Prim.Native.Nat.{ℕ, _-_, _≤_, _<_}
 use native.Mathlib.Omega.{arith}
 use mathlib.Core.Path.{_≡_, refl, sym, ap, _∙_, subst}
 use mathlib.Core.Logic.{_↔_}
 use mathlib.Core.Bool.{_&&_}
-use mathlib.Core.List.{List, []}
+use mathlib.Core.List.{List}
 use lib.Dec.{leb, leb→le}
 use lib.ListN.{length, take}
 use Rattle.model.specs.Cxl0.{Topology, Event, HasRun, FirstImpossible}

@@ -1,13 +1,13 @@
 -- Rows under silent steps: what closing a row under a gap takes, and that an event elsewhere changes no row.
-use Prim.Native.Nat.{ℕ, zero, suc, _^_, _≤_, _<_}
+use Prim.Native.Nat.{ℕ, _≤_, _<_}
 use native.Mathlib.Omega.{arith}
 use mathlib.Core.Path.{_≡_, refl, sym, _∙_, subst}
 use mathlib.Core.Logic.{_≢_, _⊎_, inl, inr, ⊎-elim, _↔_}
-use mathlib.Core.Bool.{Bool, true, false, cond, not}
-use mathlib.Core.List.{List, [], _∷_}
+use mathlib.Core.Bool.{not}
+use mathlib.Core.List.{List, _∷_}
 use lib.Dec.{T}
-use Rattle.model.specs.Cxl0.{Machine, Location, Value, Topology, Event, Action, event}
-use Rattle.model.specs.OneLocation.{Local, eventAt, concerns, possibleAt, nextAt, HasRunAt, Silently, still, Moves}
+use Rattle.model.specs.Cxl0.{Machine, Location, Value, Topology, Event, event}
+use Rattle.model.specs.OneLocation.{eventAt, concerns, possibleAt, nextAt, still}
 use Rattle.model.proofs.SilentSteps.{Reaches, moves-bound, moves-none}
 use Rattle.model.proofs.Gaps.{has-run-cons, after-gap}
 use Rattle.model.proofs.Tests.{not→false}

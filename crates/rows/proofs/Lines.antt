@@ -3,13 +3,13 @@ use Prim.Native.Nat.{ℕ, zero, suc, _<_}
 use native.Mathlib.Omega.{arith}
 use mathlib.Core.Path.{_≡_, refl, sym, subst}
 use mathlib.Core.Logic.{_≢_, _⊎_, inl, inr, ⊎-elim, _↔_}
-use mathlib.Core.Bool.{Bool, true, false, cond, not}
+use mathlib.Core.Bool.{cond}
 use lib.Dec.{T, eqb, eqb→eq, eqb·suc-zero}
 use lib.Ieee.Fits.{eq→eqb}
-use Rattle.model.specs.Cxl0.{Location, Value, Topology, owner, Action, event}
+use Rattle.model.specs.Cxl0.{Location, Value, Topology, event}
 use Rattle.model.specs.Cxl0.{Event, LStore, RStore, MStore, Load, LFlush, RFlush, Crash}
-use Rattle.model.specs.Sharers.{has, insert, remove}
-use Rattle.model.specs.OneLocation.{Local, eventAt, concerns, enabledAt, effect, possibleAt, nextAt}
+use Rattle.model.specs.Sharers.{insert}
+use Rattle.model.specs.OneLocation.{eventAt, concerns, enabledAt, effect, possibleAt, nextAt}
 use Rattle.model.proofs.Tests.{T→true}
 use Rattle.rows.specs.declared.Row.{Row}
 use Rattle.rows.specs.Rows.{state, Fine, Before}

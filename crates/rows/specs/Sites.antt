@@ -1,13 +1,11 @@
 -- What the search knows of a location: its number, its owner, whether a crash of the owner clears its memory, and
 -- the value that memory has at the start and after such a crash.
-use Prim.Native.Nat.{ℕ, _≤_, _<_}
 use mathlib.Core.Path.{_≡_}
-use mathlib.Core.Bool.{Bool, cond, _&&_}
+use mathlib.Core.Bool.{cond, _&&_}
 use mathlib.Core.List.{List, [], _∷_}
-use lib.Dec.{T, eqb}
-use Rattle.model.specs.Cxl0.{Machine, Location, Value, Topology, isLocation, owner, initial, clears}
+use lib.Dec.{eqb}
+use Rattle.model.specs.Cxl0.{Machine, Location, Value, Topology, owner, initial, clears}
 use Rattle.model.specs.Cxl0.{Event, LStore, RStore, MStore, Load, LFlush, RFlush, Crash}
-use Rattle.model.specs.OneLocation.{Local, eventAt}
 use Rattle.model.specs.Operations.{eventOf}
 use Rattle.model.specs.declared.Event as event
 use Rattle.masks.specs.Sets.{OneToSix}

@@ -17,7 +17,7 @@ use Rattle.walking.specs.Scratch.{ROWS, STEPS, eventIn, eventsIn, rowIn, copyIn
 use Rattle.walking.specs.Access.{MOST, RowPut}
 use Rattle.walking.specs.Passes.{Copies, Answers, Ready, Steppable, OnlyRows}
 use Rattle.walking.proofs.Frames.{only-none, only-then, only-wider, getD-below, getD-above}
-use Rattle.walking.proofs.Events.{event-same, events-same, events-drop, events-drop-all, copies-suc}
+use Rattle.walking.proofs.Events.{event-same, events-drop, events-drop-all, copies-suc}
 
 -- ---- what a row leaves as it was
 

@@ -9,7 +9,6 @@ use mathlib.Core.Logic.{⊎-elim}
 use mathlib.Core.Bool.{true, false, not, true≢false}
 use mathlib.Core.List.{List, [], _∷_, append-nil}
 use lib.Dec.{T}
-use lib.ListN.{take, drop}
 use Rattle.model.specs.Cxl0.{Location, Value, Topology, owner, Event, event}
 use Rattle.model.specs.Schedule.{steps}
 use Rattle.model.specs.OneLocation.{startAt, eventAt, possibleAt}
@@ -25,7 +24,7 @@ use Rattle.walking.specs.Access.{MOST, OnlyIn, CopyPut, PlacePut}
 use Rattle.walking.specs.Passes.{Copies, Ready}
 use Rattle.walking.specs.Places.{codeAfter, placeAfter}
 use Rattle.walking.specs.Trails.{RunsTo}
-use Rattle.walking.proofs.Frames.{only-then, only-wider, getD-below, getD-above}
+use Rattle.walking.proofs.Frames.{only-then, only-wider, getD-below}
 use Rattle.walking.proofs.Events.{events-suc, events-length, copies-suc, event-same, events-same}
 use Rattle.walking.proofs.Trails.{runsTo-none, runsTo-cons}
 use Rattle.walking.proofs.Turns.{next-state, elsewhere-runs}

@@ -2,10 +2,9 @@
 -- where the events up to the next have no run, and where there are no more.
 use Prim.Native.Nat.{ℕ, suc, _+_, _-_, _≤_, _<_}
 use native.Mathlib.Omega.{arith}
-use mathlib.Core.Path.{_≡_, refl, sym, ap, _∙_, subst}
+use mathlib.Core.Path.{_≡_, sym, subst}
 use mathlib.Core.Bool.{true, false}
 use mathlib.Core.List.{List, map}
-use lib.ListN.{take}
 use Rattle.model.specs.Cxl0.{Topology, Event}
 use Rattle.model.specs.Schedule.{Step, weave}
 use Rattle.model.specs.OneLocation.{Local, HasRunAt, startAt}
@@ -15,7 +14,7 @@ use Rattle.rows.specs.declared.Site.{Site}
 use Rattle.rows.specs.Rows.{state}
 use Rattle.rows.specs.Sites.{Describes, copyFrom}
 use Rattle.walking.specs.declared.Place.{Place}
-use Rattle.walking.specs.Scratch.{ROWS, STEPS, PLACES-END, eventIn, eventsFrom, eventsIn, copyIn}
+use Rattle.walking.specs.Scratch.{ROWS, STEPS, eventsFrom, eventsIn, copyIn}
 use Rattle.walking.specs.Access.{MOST, OnlyIn, CopyPut}
 use Rattle.walking.specs.Passes.{Copies, Fits}
 use Rattle.walking.proofs.Frames.{only-wider}

@@ -1,6 +1,6 @@
 -- A schedule of one location, event by event: steps of the location in order that, woven with the events, run
 -- at it. They name machines and locations of the system, and are no more than the events allow for.
-use Prim.Native.Nat.{ℕ, suc, _≤_, _<_}
+use Prim.Native.Nat.{ℕ, suc, _≤_}
 use native.Mathlib.Omega.{arith}
 use mathlib.Core.Path.{_≡_, refl, sym, ap, _∙_, subst}
 use mathlib.Core.Logic.{⊎-elim}

@@ -53,10 +53,6 @@ module _ {w : List ℕ} {i : ℕ} {vs r : List ℕ} {k : ℕ} (p : Stored w i vs
         above = ap (drop to) (p .words) ∙ drop-sets to w i vs (omega (arith, p .here));
       }
 
-  -- A part of the area before the words stays.
-  pub stored-slice : (f t : ℕ) → t ≤ i → slice f t r ≡ slice f t w
-  stored-slice f t h = ap (slice f t) (p .words) ∙ ap (drop f) (take-sets t w i vs h)
-
   -- The words are there.
   pub stored-words : k ≤ length w → slice i k r ≡ vs
   stored-words h =

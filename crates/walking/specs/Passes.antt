@@ -1,10 +1,9 @@
--- What the passes over the scratch area ask and leave: the values of the copies forward, the rows backward.
-use Prim.Native.Nat.{ℕ, suc, _≤_, _<_}
+-- The values of the copies and the rows in the scratch area: what they say, what a step back over the events asks, and
+-- what it leaves.
+use Prim.Native.Nat.{ℕ, _≤_, _<_}
 use mathlib.Core.Path.{_≡_}
-use mathlib.Core.Logic.{_↔_}
-use mathlib.Core.Bool.{Bool, true}
 use mathlib.Core.List.{List}
-use lib.ListN.{length, drop}
+use lib.ListN.{length}
 use Rattle.model.specs.Cxl0.{Location, Value, Topology, Event}
 use Rattle.model.specs.OneLocation.{HasRunAt, startAt}
 use Rattle.masks.specs.Sets.{OneToSix}
@@ -12,7 +11,7 @@ use Rattle.rows.specs.declared.Row.{Row}
 use Rattle.rows.specs.declared.Site.{Site}
 use Rattle.rows.specs.Rows.{Right, Closed}
 use Rattle.rows.specs.Sites.{Describes, machineOf, copyAfter, copyFrom}
-use Rattle.walking.specs.Scratch.{ROWS, STEPS, eventIn, eventsIn, rowIn, copyIn}
+use Rattle.walking.specs.Scratch.{ROWS, STEPS, eventIn, eventsIn, copyIn}
 use Rattle.walking.specs.Access.{WORDS, MOST, OnlyIn}
 
 -- The copy words of rows 0 to m have the values of the copies of x after so many events.
@@ -28,7 +27,7 @@ pub record Answers (s : Site) (es : List Event) (u : Value) (row : Row) : Type 0
 abbrev pub Fits : Topology → Site → ℕ → List ℕ → Type 0
 Fits sys s m w = HasRunAt sys (s .location .0) (eventsIn w m) (startAt sys (s .location .0))
 
--- ---- what a pass asks
+-- ---- what it asks
 
 -- The scratch area is long enough, and has m events by machines 1 to 6 and the copies of the site's location.
 pub record Ready (s : Site) (m : ℕ) (w : List ℕ) : Type 0 where
@@ -46,7 +45,7 @@ pub record Steppable (s : Site) (t : ℕ) (w : List ℕ) (rest : Row) : Type 0 w
   pub machine : OneToSix (machineOf (eventIn w t))
   pub closed : Closed (copyAfter (s .location .0) (copyIn w t) (eventIn w t)) rest
 
--- ---- what a pass leaves
+-- ---- what it leaves
 
 -- Only rows have changed: not the events, nor the copies, nor what follows the rows.
 pub record OnlyRows (w w' : List ℕ) : Type 0 where

@@ -9,14 +9,13 @@ use Rattle.model.specs.Cxl0.{Machine, Value, Topology, isLocation, WellFormed}
 use Rattle.model.specs.Cxl0.{Event, event, silent, named, allNamed}
 use Rattle.model.specs.Schedule.{Step, silentOf, steps, weave, inOrder}
 use Rattle.model.specs.OneLocation.{HasRunAt, startAt, runsAt}
-use Rattle.model.specs.Words.{stepOfWord}
 use Rattle.model.proofs.SilentSteps.{Reaches}
 use Rattle.rows.specs.declared.Row.{Row}
 use Rattle.rows.specs.declared.Site.{Site}
 use Rattle.rows.specs.Rows.{state, Fine, Right}
 use Rattle.rows.specs.Sites.{Describes, copyAfter}
 use Rattle.walking.specs.declared.Place.{Place}
-use Rattle.walking.specs.Scratch.{STEPS, eventIn, eventsIn, rowIn, copyIn}
+use Rattle.walking.specs.Scratch.{eventIn, rowIn, copyIn}
 use Rattle.walking.specs.Access.{WORDS}
 use Rattle.walking.specs.Passes.{Steppable}
 use Rattle.walking.specs.Stored.{Stored}

@@ -1,6 +1,6 @@
 -- `format_cases::say_bytes` is safe and ends.
 use borrow.Author.Needs.{needs}
-use Prim.Native.Nat.{_≤_, _-_}
+use Prim.Native.Nat.{_-_}
 use mathlib.Core.Path.{_≡_}
 use lib.ListN.{length}
 use Rattle.format_cases.proofs.say_bytes.Statement.{statement}

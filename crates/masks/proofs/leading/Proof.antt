@@ -1,6 +1,6 @@
 -- `masks::leading` meets its contract: no move leads from code 0 or to it, so that a set with none or all of
 -- the other codes gains no code.
-use Prim.Native.Nat.{ℕ, _<_}
+use Prim.Native.Nat.{ℕ}
 use native.Mathlib.Omega.{arith}
 use mathlib.Core.Path.{_≡_, sym, subst, _∙_}
 use mathlib.Core.Logic.{_⊎_, ⊎-elim, inl}

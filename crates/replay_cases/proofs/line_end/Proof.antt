@@ -1,7 +1,6 @@
 -- `replay_cases::line_end` is safe and ends.
 use borrow.Author.Needs.{needs}
 use Prim.Native.Nat.{_≤_, _-_}
-use mathlib.Core.Path.{_≡_}
 use lib.ListN.{length}
 use Rattle.replay_cases.proofs.line_end.Statement.{statement}
 use Rattle.replay_cases.proofs.line_end.Tie as tie

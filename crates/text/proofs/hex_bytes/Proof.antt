@@ -1,9 +1,8 @@
 -- `text::hex_bytes` is safe and ends.
 use borrow.Author.Needs.{needs}
-use Prim.Native.Nat.{_≤_, _-_}
+use Prim.Native.Nat.{_-_}
 use mathlib.Core.Path.{_≡_}
 use lib.ListN.{length}
-use native.Mathlib.Omega.{arith}
 use Rattle.text.proofs.hex_bytes.Statement.{statement}
 use Rattle.text.proofs.hex_bytes.Tie as tie
 

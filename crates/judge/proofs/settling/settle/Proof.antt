@@ -1,6 +1,6 @@
 -- `settle` issues a sound verdict.
 use native.Mathlib.Omega.{arith}
-use mathlib.Core.Path.{_≡_, _∙_}
+use mathlib.Core.Path.{_∙_}
 use denote.Ref.{now}
 use borrow.Author.Needs.{needs}
 use Rattle.walking.specs.Scratch.{SORTED}

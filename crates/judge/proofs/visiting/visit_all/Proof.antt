@@ -5,7 +5,7 @@ use native.Mathlib.Omega.{arith}
 use lib.ListN.{length}
 use mathlib.Core.Path.{_≡_}
 use Rattle.model.proofs.Limits.{mapped}
-use Rattle.judge.specs.Visiting.{Loaded, Visits}
+use Rattle.judge.specs.Visiting.{Visits}
 use Rattle.judge.proofs.Described.{is-listed}
 use Rattle.judge.proofs.AllVisits.{visits-none, visits-can, visits-more}
 use Rattle.judge.proofs.visiting.visit_all.Statement.{statement}
