@@ -12,7 +12,8 @@ use Rattle.model.specs.Cxl0.{Location, Event, LStore, RStore, MStore, Load, LFl
 use Rattle.model.specs.Cxl0.{event, count, isStore, isLoad}
 use Rattle.model.specs.OneLocation.{eventAt}
 use Rattle.model.proofs.Tests.{by-test, not→false, ne→test}
-use Rattle.model.proofs.Sums.{sum, sum-zero, sum-le, sum-at}
+use Rattle.model.specs.Sums.{sum}
+use Rattle.model.proofs.Sums.{sum-zero, sum-le, sum-at}
 use Rattle.model.proofs.Potential.{gain}
 use Rattle.walking.specs.Allowance.{allowance}
 use Rattle.search.proofs.Allowance.{allowance-cons}

@@ -13,7 +13,7 @@ use borrow.Author.Tests.{eq-eqb, ne-eqb}
 use Rattle.model.specs.Cxl0.{Location, Topology, Event}
 use Rattle.model.specs.Schedule.{Step, weave, inOrder}
 use Rattle.model.specs.OneLocation.{startAt, runsAt}
-use Rattle.model.proofs.Sums.{sum}
+use Rattle.model.specs.Sums.{sum}
 use Rattle.model.proofs.Weaving.{inOrder-cons}
 use Rattle.rows.specs.declared.Site.{Site}
 use Rattle.walking.specs.Walks.{Placed, Schedules}

@@ -6,7 +6,7 @@ use lib.ListN.{length}
 use Rattle.model.specs.Cxl0.{Location, Topology, Event, silent, named}
 use Rattle.model.specs.Schedule.{Step, silentOf, weave, inOrder}
 use Rattle.model.specs.OneLocation.{startAt, runsAt}
-use Rattle.model.proofs.Sums.{sum}
+use Rattle.model.specs.Sums.{sum}
 use Rattle.walking.specs.Allowance.{allowance}
 use Rattle.search.specs.Ordering.{atLocation}
 

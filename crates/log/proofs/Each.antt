@@ -4,6 +4,7 @@ use native.Mathlib.Nat.{le-of-suc-le-suc, not-suc-le-zero}
 use mathlib.Core.List.{List, [], _∷_, _++_}
 use lib.ListN.{length, getD, take}
 use Rattle.log.specs.Records.{Each}
+use Rattle.log.specs.Bytes.{Bytes}
 
 module _ {A : Type 0} (P : A → Type 0) where
   pub each-at : (l : List A) → Each P l → (i : ℕ) (d : A) → i < length l → P (getD l i d)
@@ -23,10 +24,6 @@ module _ {A : Type 0} (P : A → Type 0) where
   pub each-map : (Q : A → Type 0) → ((a : A) → P a → Q a) → (l : List A) → Each P l → Each Q l
   each-map Q g [] f = tt
   each-map Q g (a ∷ l) f = (g a (f .0), each-map Q g l (f .1))
-
--- Every element is below 256, as in the contents of a `&[u8]`.
-abbrev pub Bytes : List ℕ → Type 0
-Bytes = Each (λ b. b < 256)
 
 pub bytes-by-index : (s : List ℕ) → ((i : ℕ) → getD s i 0 < 256) → Bytes s
 bytes-by-index [] f = tt

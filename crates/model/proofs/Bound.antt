@@ -14,7 +14,8 @@ use Rattle.model.specs.Cxl0.{Event, Action, event, silent, Run, events, 
 use Rattle.model.specs.OneLocation.{Local, eventAt, silentAt, concerns}
 use Rattle.model.specs.OneLocation.{possibleAt, nextAt, startAt, runsAt}
 use Rattle.model.proofs.Tests.{and-l, and-r, by-test, T→true, not→false, ne→test}
-use Rattle.model.proofs.Sums.{sum, sum-zero, sum-le, sum-at}
+use Rattle.model.specs.Sums.{sum}
+use Rattle.model.proofs.Sums.{sum-zero, sum-le, sum-at}
 use Rattle.model.proofs.Potential.{one, rank, rank-start, gain, loss, rank-step}
 use Rattle.model.proofs.Split.{split-run}
 

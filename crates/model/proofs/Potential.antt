@@ -15,7 +15,8 @@ use Rattle.model.specs.OneLocation.{Local, enabledAt, effect, moved, sta
 use Rattle.model.proofs.Tests.{and-l, and-r, T→true, not→false, ne→test}
 use Rattle.model.proofs.Sharers.{has-insert, has-remove, has-none, remove-le}
 use Rattle.model.proofs.Expand.{machine-bounds}
-use Rattle.model.proofs.Sums.{sum, sum-zero, sum-at}
+use Rattle.model.specs.Sums.{sum}
+use Rattle.model.proofs.Sums.{sum-zero, sum-at}
 
 -- 1 for a test that is passed, 0 for one that is failed.
 abbrev pub one : Bool → ℕ

@@ -10,7 +10,7 @@ use lib.Dec.{T, T-not, eqb, eqb-refl}
 use Rattle.model.specs.Cxl0.{Machine, Location, Topology, owner, Propagate, WriteBack}
 use Rattle.model.specs.Sharers.{has, remove}
 use Rattle.model.specs.OneLocation.{Local, moved, silentAt, enabledAt, effect}
-use Rattle.model.specs.OneLocation.{Moves, stay, move, Silently, still, step}
+use Rattle.model.specs.OneLocation.{Moves, stay, move, Silently, still, step, recoded, written, Reaches}
 use Rattle.model.proofs.Tests.{and-r, and-i, or-l, by-test, ne→test}
 use Rattle.model.proofs.Sharers.{has-insert, has-remove, has-none, insert-bound, remove-le, member}
 
@@ -38,20 +38,6 @@ moves-bound n {k} l u (move {c} i t r) h = moves-bound n l u r (moved-bound n k 
 pub moves-none : {k c d : ℕ} → Moves k c d → c ≡ 0 → d ≡ 0
 moves-none stay z = z
 moves-none {k} (move {c} i t r) z = absurd (has→some i c (and-r (not (eqb i k)) (has i c) t) z)
-
--- A short form with another code, which is what moves make of it, and with its copies written back.
-abbrev pub recoded : ℕ → Local → Local
-recoded c s = record { code = c; copy = s .copy; memory = s .memory }
-
-abbrev pub written : Local → Local
-written s = record { code = 0; copy = s .copy; memory = s .copy }
-
--- The normal form: the copies keep their value, and either there were only moves or they are written back.
-abbrev pub Reaches : Machine → Local → Local → Type 0
-Reaches k s t =
-    (t .copy ≡ s .copy)
-    × (((t .memory ≡ s .memory) × Moves k (s .code) (t .code))
-    ⊎ ((s .code ≢ 0) × (t .code ≡ 0) × (t .memory ≡ s .copy)))
 
 -- In the normal form t is s with another code, or s with its copies written back.
 pub reached-form : {k : Machine} (s t : Local) → Reaches k s t

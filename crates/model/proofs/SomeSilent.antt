@@ -13,7 +13,8 @@ use Rattle.model.specs.OneLocation.{Local, moved, Moves, stay, move, Sil
 use Rattle.model.proofs.Tests.{and-l, and-r, and-i, or-l, or-r, or-cases, by-test, ne-test, ne→test}
 use Rattle.model.proofs.Sharers.{has-bound, same-code}
 use Rattle.model.proofs.SilentSteps.{has-moved, moved-bound}
-use Rattle.model.proofs.SilentSteps.{recoded, written, reached-form, normal-form}
+use Rattle.model.specs.OneLocation.{recoded, written}
+use Rattle.model.proofs.SilentSteps.{reached-form, normal-form}
 
 -- Machine i has a copy that it may propagate to the owner k.
 abbrev pub movable : Machine → Machine → ℕ → Bool

@@ -1,15 +1,12 @@
--- Sums over the numbers below n, and how they change with their terms.
+-- How sums over the numbers below n change with their terms.
 use Prim.Native.Nat.{ℕ, zero, suc, _+_, _≤_, _<_}
 use native.Mathlib.Nat.{not-suc-le-zero}
 use native.Mathlib.Omega.{arith}
 use mathlib.Core.Path.{_≡_, refl, subst}
 use mathlib.Core.Logic.{_≢_}
 use lib.Dec.{eqb, eqb→eq}
+use Rattle.model.specs.Sums.{sum}
 use Rattle.model.proofs.Tests.{by-test, ne-test}
-
-unfoldable pub sum : ℕ → (ℕ → ℕ) → ℕ
-sum zero f = 0
-sum (suc n) f = f n + sum n f
 
 -- A sum of zeros is 0.
 pub sum-zero : (n : ℕ) (f : ℕ → ℕ) → ((j : ℕ) → f j ≡ 0) → sum n f ≡ 0

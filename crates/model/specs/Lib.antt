@@ -4,6 +4,7 @@ pub mod Operations
 pub mod Sharers
 pub mod OneLocation
 pub mod Goes
+pub mod Sums
 pub mod Words
 pub mod Meaning
 pub mod MarkedLogs

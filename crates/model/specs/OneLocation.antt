@@ -2,6 +2,7 @@
 -- The theorems carry statements on the whole system to statements on this short form and back.
 use Prim.Native.Nat.{ℕ}
 use mathlib.Core.Path.{_≡_}
+use mathlib.Core.Logic.{_≢_, _⊎_}
 use mathlib.Core.Bool.{Bool, true, cond, not, _&&_}
 use mathlib.Core.List.{List, [], _∷_}
 use mathlib.Core.Option.{none, some}
@@ -128,3 +129,18 @@ pub data Silently (sys : Topology) (x : Location) : Local → Local → Type 0 w
       → T (silentAt x a && enabledAt sys x (silent a) s)
       → Silently sys x (effect sys x (silent a) s) t
       → Silently sys x s t
+
+-- A short form with another code, which is what moves make of it, and with its copies written back.
+abbrev pub recoded : ℕ → Local → Local
+recoded c s = record { code = c; copy = s .copy; memory = s .memory }
+
+abbrev pub written : Local → Local
+written s = record { code = 0; copy = s .copy; memory = s .copy }
+
+-- What silent steps come to where the owner is k: the copies keep their value, and either there were only moves or they are
+-- written back.
+abbrev pub Reaches : Machine → Local → Local → Type 0
+Reaches k s t =
+    (t .copy ≡ s .copy)
+    × (((t .memory ≡ s .memory) × Moves k (s .code) (t .code))
+    ⊎ ((s .code ≢ 0) × (t .code ≡ 0) × (t .memory ≡ s .copy)))

@@ -19,7 +19,7 @@ use Rattle.model.proofs.Theorems
 use Rattle.log.specs.Records.{Records, systemOf, WithinLimits}
 use Rattle.log.specs.Bytes.{encode}
 use Rattle.log.specs.Reading.{accepted, rejected, readLog}
-use Rattle.log.proofs.Each.{Bytes}
+use Rattle.log.specs.Bytes.{Bytes}
 use Rattle.log.proofs.OneForm
 use Rattle.recorder.specs.Recording as recording
 use Rattle.recorder.specs.Recording.{recorded, written}
@@ -29,7 +29,7 @@ use Rattle.replay.specs.Replaying as replaying
 use Rattle.replay.specs.Replaying.{replayLog}
 use Rattle.replay.specs.Answers as told
 use Rattle.replay.specs.declared.Replayed.{Replayed}
-use Rattle.replay.proofs.Replays.{Stops}
+use Rattle.replay.specs.Replaying.{Stops}
 use Rattle.replay.proofs.Demand2
 use Rattle.judge.specs.Clearing.{zeros}
 use Rattle.judge.specs.Judging.{Answer, gives, refused, answerOf, outcomeOf, areasFit, Judges}

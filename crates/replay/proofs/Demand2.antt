@@ -17,7 +17,8 @@ use Rattle.verdict_file.specs.Files.{allowed, fileOf}
 use Rattle.verdict_file.specs.Schedules.{scheduleFits, readSchedule}
 use Rattle.verdict_file.proofs.Accepted.{reads-back}
 use Rattle.replay.specs.Replaying.{Answer, replayed, withSchedule, withLog, replayLog}
-use Rattle.replay.proofs.Replays.{Stops, yes-iff-run, no-stops}
+use Rattle.replay.specs.Replaying.{Stops}
+use Rattle.replay.proofs.Replays.{yes-iff-run, no-stops}
 
 -- An answer that is no refusal is the replay of what was read.
 module _ (a : Answer) (answered : (n : ℕ) → Answer.refused n ≡ a → ⊥) where

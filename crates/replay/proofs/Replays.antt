@@ -4,15 +4,14 @@ use Prim.Native.Nat.{ℕ, suc, _+_}
 use mathlib.Core.Path.{_≡_, refl, sym, ap, subst}
 use mathlib.Core.Logic.{_↔_}
 use mathlib.Core.Bool.{Bool, true, false, cond, not, _&&_}
-use mathlib.Core.List.{List, [], _∷_, _++_}
+use mathlib.Core.List.{List, [], _∷_}
 use native.Mathlib.Omega.{arith}
 use lib.Dec.{T}
-use lib.ListN.{length}
 use Rattle.model.specs.Cxl0.{Topology, State, start, Event, Action, event, silent, possible, next}
 use Rattle.model.specs.Cxl0.{runs, after, Run, events}
 use Rattle.model.specs.Schedule.{Step, weave}
 use Rattle.model.proofs.Tests.{by-test, and-i, T→true, not→false}
-use Rattle.replay.specs.Replaying.{Answer, yes, no, counted, replayFrom, replayed}
+use Rattle.replay.specs.Replaying.{Answer, yes, no, counted, replayFrom, replayed, Stops}
 
 yes≢no : (n : ℕ) → Answer.no n ≡ Answer.yes → ⊥
 yes≢no n e = let z : _≡_ {A = ℕ} 0 1 = cc in omega arith
@@ -36,17 +35,6 @@ pub yes-iff-run : (sys : Topology) (es : List Event) (ps : List Step)
     → (replayed sys es ps ≡ Answer.yes) ↔ Run sys (weave es ps)
 unfolding replayed
 yes-iff-run sys es ps = yes-from sys 0 (weave es ps) (start sys)
-
--- From a state the actions before `stop` run, `stop` is not possible after them, and k events are among those
--- before it.
-pub record Stops (sys : Topology) (acts : List Action) (s : State) (k : ℕ) : Type 0 where
-  pub ahead : List Action
-  pub stop : Action
-  pub rest : List Action
-  pub parts : acts ≡ ahead ++ stop ∷ rest
-  pub run : T (runs sys ahead s)
-  pub impossible : T (not (possible sys stop (after sys ahead s)))
-  pub passed : length (events ahead) ≡ k
 
 -- One possible action more in front.
 later : (sys : Topology) (n k : ℕ) (a : Action) (acts : List Action) (s : State) → T (possible sys a s)

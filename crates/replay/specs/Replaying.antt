@@ -1,11 +1,14 @@
 -- Replay: events with a schedule, one action after the other on the whole system, from empty caches and
 -- initial memories.
 use Prim.Native.Nat.{ℕ, suc}
-use mathlib.Core.Bool.{cond}
-use mathlib.Core.List.{List, [], _∷_}
+use mathlib.Core.Path.{_≡_}
+use mathlib.Core.Bool.{cond, not}
+use mathlib.Core.List.{List, [], _∷_, _++_}
 use mathlib.Core.Option.{Option, none, some}
+use lib.Dec.{T}
 use lib.ListN.{length}
 use Rattle.model.specs.Cxl0.{Topology, State, start, Event, Action, event, silent, possible, next}
+use Rattle.model.specs.Cxl0.{runs, after, events}
 use Rattle.model.specs.Schedule.{Step, weave}
 use Rattle.log.specs.Records.{Records, systemOf}
 use Rattle.log.specs.Reading.{Log, accepted, rejected, readLog}
@@ -41,3 +44,14 @@ withLog (accepted r) f = withSchedule r (readSchedule (systemOf r) (length (r .e
 
 unfoldable pub replayLog : List ℕ → List ℕ → Answer
 replayLog s f = withLog (readLog s) f
+
+-- From a state the actions before `stop` run, `stop` is not possible after them, and k events are among those
+-- before it.
+pub record Stops (sys : Topology) (acts : List Action) (s : State) (k : ℕ) : Type 0 where
+  pub ahead : List Action
+  pub stop : Action
+  pub rest : List Action
+  pub parts : acts ≡ ahead ++ stop ∷ rest
+  pub run : T (runs sys ahead s)
+  pub impossible : T (not (possible sys stop (after sys ahead s)))
+  pub passed : length (events ahead) ≡ k

@@ -8,7 +8,8 @@ use mathlib.Core.List.{List, _∷_}
 use lib.Dec.{T}
 use Rattle.model.specs.Cxl0.{Machine, Location, Value, Topology, Event, event}
 use Rattle.model.specs.OneLocation.{eventAt, concerns, possibleAt, nextAt, still}
-use Rattle.model.proofs.SilentSteps.{Reaches, moves-bound, moves-none}
+use Rattle.model.specs.OneLocation.{Reaches}
+use Rattle.model.proofs.SilentSteps.{moves-bound, moves-none}
 use Rattle.model.proofs.Gaps.{has-run-cons, after-gap}
 use Rattle.model.proofs.Tests.{not→false}
 use Rattle.masks.specs.Sets.{In, Leads}

@@ -6,7 +6,8 @@ use mathlib.Core.List.{List, [], _∷_}
 use lib.Dec.{T}
 use Rattle.model.specs.Cxl0.{Location, Value, Topology, owner, Event, event}
 use Rattle.model.specs.OneLocation.{Local, possibleAt, nextAt, HasRunAt}
-use Rattle.model.proofs.SilentSteps.{Reaches, normal-form, silently-bound}
+use Rattle.model.specs.OneLocation.{Reaches}
+use Rattle.model.proofs.SilentSteps.{normal-form, silently-bound}
 use Rattle.model.proofs.Gaps.{has-run-nil, has-run-cons}
 use Rattle.masks.specs.Sets.{In}
 use Rattle.rows.specs.declared.Row.{Row}

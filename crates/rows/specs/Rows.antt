@@ -7,7 +7,7 @@ use mathlib.Core.List.{List}
 use lib.Dec.{T}
 use Rattle.model.specs.Cxl0.{Machine, Location, Value, Topology, Event, event}
 use Rattle.model.specs.OneLocation.{Local, possibleAt, nextAt, HasRunAt}
-use Rattle.model.proofs.SilentSteps.{Reaches}
+use Rattle.model.specs.OneLocation.{Reaches}
 use Rattle.masks.specs.Sets.{In}
 use Rattle.rows.specs.declared.Row.{Row}
 

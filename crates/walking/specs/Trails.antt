@@ -8,7 +8,7 @@ use Rattle.model.specs.Cxl0.{Machine, Location, Topology, Action}
 use Rattle.model.specs.Schedule.{Step}
 use Rattle.model.specs.Sharers.{has}
 use Rattle.model.specs.OneLocation.{Local, moved, runsAt, afterAt}
-use Rattle.model.proofs.SilentSteps.{recoded, written}
+use Rattle.model.specs.OneLocation.{recoded, written}
 
 -- At a location with owner k the steps are possible in their turn and lead from s to t.
 pub data Trail (k : Machine) : List Machine → Local → Local → Type 0 where

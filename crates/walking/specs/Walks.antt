@@ -9,7 +9,7 @@ use Rattle.model.specs.Cxl0.{Machine, Value, Topology, isLocation, WellFormed}
 use Rattle.model.specs.Cxl0.{Event, event, silent, named, allNamed}
 use Rattle.model.specs.Schedule.{Step, silentOf, steps, weave, inOrder}
 use Rattle.model.specs.OneLocation.{HasRunAt, startAt, runsAt}
-use Rattle.model.proofs.SilentSteps.{Reaches}
+use Rattle.model.specs.OneLocation.{Reaches}
 use Rattle.rows.specs.declared.Row.{Row}
 use Rattle.rows.specs.declared.Site.{Site}
 use Rattle.rows.specs.Rows.{state, Fine, Right}

@@ -5,7 +5,8 @@ use mathlib.Core.Path.{ap, _∙_}
 use mathlib.Core.List.{List}
 use denote.Ref.{now}
 use borrow.Author.Needs.{needs}
-use Rattle.log.proofs.Each.{Bytes, bytes-by-index}
+use Rattle.log.specs.Bytes.{Bytes}
+use Rattle.log.proofs.Each.{bytes-by-index}
 use Rattle.cursors.specs.Opening.{Opens}
 use Rattle.judge.specs.Clearing.{zeros}
 use Rattle.judge.proofs.Deciding.{fit-out, fit-scratch, loadable, loads-loaded, decided}

@@ -1,0 +1,6 @@
+-- Sums over the numbers below n.
+use Prim.Native.Nat.{ℕ, zero, suc, _+_}
+
+unfoldable pub sum : ℕ → (ℕ → ℕ) → ℕ
+sum zero f = 0
+sum (suc n) f = f n + sum n f
