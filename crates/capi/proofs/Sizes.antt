@@ -17,7 +17,7 @@ use Rattle.verdict_file.specs.Schedules.{everyStepFits, scheduleFits}
 use Rattle.verdict_file.proofs.Files.{length-allowed, length-impossible, short}
 use Rattle.verdict_file.proofs.Accepted as schedules
 use Rattle.replay.specs.Replaying.{yes, replayLog}
-use Rattle.replay.proofs.Demand2.{yes-exactly}
+use Rattle.replay.proofs.Demand2.{yes-few}
 use Rattle.judge.specs.Judging.{Outcome, refusal, told, verdict, areasFit, Right, JudgesLog, Judges}
 use Rattle.capi.specs.Packing.{RecordedFits, JudgedFits}
 
@@ -27,22 +27,11 @@ pub recorded-fits : (buf : List ℕ) (used tag : ℕ) (p : List ℕ) (a : Record
 recorded-fits buf used tag p (count n) e = omega (arith, count-most buf used tag p n (sym e))
 recorded-fits buf used tag p (Recorded.rejected number) e = tt
 
--- A file that replay says yes to has at most 256 steps.
-steps-most : (s : List ℕ) (ps : List Step) → replayLog s (fileOf (allowed ps)) ≡ yes → length ps ≤ stepsMost
-unfolding scheduleFits
-steps-most s ps e =
-    let (r, qs, log, read, run) = yes-exactly s (fileOf (allowed ps)) .0 e in
-    let n = length (r .events) in
-    let (same, fits) = schedules.accepts (systemOf r) n qs (fileOf (allowed ps)) .0 read in
-    let ordered = and-l (leb (length qs) stepsMost && inOrder 0 n qs) (everyStepFits (systemOf r) qs) fits in
-    let few = and-l (leb (length qs) stepsMost) (inOrder 0 n qs) ordered in
-    omega (arith, ap length same, length-allowed ps, length-allowed qs, leb→le (length qs) stepsMost few)
-
 -- A right verdict has at most 256 steps and 1,544 bytes, so both fit 16 bits.
 told-fits : (s : List ℕ) (r : Records) (v : Verdict) → Right s r v → JudgedFits (told v)
 unfolding Right told
 told-fits s r (allowed ps) right =
-    let few = steps-most s ps right in
+    let few = yes-few s ps right in
     (omega arith, omega (arith, short (allowed ps) few))
 told-fits s r (impossible event) right = (omega arith, omega (arith, length-impossible event))
 

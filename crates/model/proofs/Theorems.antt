@@ -10,7 +10,7 @@ use lib.ListN.{length, take}
 use Rattle.model.specs.Cxl0.{Machine, Location, Value, Topology, WellFormed, isLocation, owner, start}
 use Rattle.model.specs.Cxl0.{Event, Action, event, allNamed, Run, HasRun, after, events, silents}
 use Rattle.model.specs.Cxl0.{count, isStore, isLoad}
-use Rattle.model.specs.Schedule.{weave, schedule}
+use Rattle.model.specs.Schedule.{Step, weave, schedule, inOrder}
 use Rattle.model.specs.OneLocation.{Local, startAt, runsAt, HasRunAt, Moves, Silently}
 use Rattle.model.specs.MarkedLogs.{MarkedLog, Verdict, logs}
 use Rattle.model.proofs.CopiesAgree
@@ -71,10 +71,16 @@ decide-correct = Decision.decide-correct
 pub has-run-prefix : (sys : Topology) (es : List Event) (d : ℕ) → HasRun sys es → HasRun sys (take d es)
 has-run-prefix = Prefixes.has-run-prefix
 
--- 6. Weaving the events of a run with the schedule that came from it gives the run back.
+-- 6. Any choice of silent steps at any places is a schedule: a run is its events woven with its schedule, which is in
+-- order.
 pub weave-run : (sys : Topology) (acts : List Action) → Run sys acts
-    → weave (events acts) (schedule acts) ≡ acts
-weave-run = Weaving.weave-run
+    → T (inOrder 0 (length (events acts)) (schedule acts)) × (weave (events acts) (schedule acts) ≡ acts)
+weave-run sys acts run = (Weaving.schedule-inOrder acts, Weaving.weave-run sys acts run)
+
+-- And back: a schedule in order is the schedule of what it weaves with events, and these are the events of that.
+pub schedule-weave : (es : List Event) (ps : List Step) → T (inOrder 0 (length es) ps)
+    → (events (weave es ps) ≡ es) × (schedule (weave es ps) ≡ ps)
+schedule-weave es ps order = (Weaving.events-weave es ps, Weaving.schedule-weave es ps order)
 
 -- The fourteen marked logs have the verdicts that document 01 gives them.
 pub marked-logs : (l : MarkedLog) → List·Memᴰ l logs

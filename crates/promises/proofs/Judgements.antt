@@ -13,29 +13,18 @@ use Rattle.model.specs.Schedule.{Step}
 use Rattle.model.proofs.Tests.{true→T}
 use Rattle.log.specs.Records.{Records, systemOf}
 use Rattle.log.specs.Reading.{accepted, rejected, readLog}
-use Rattle.recorder.specs.Recording as recording
-use Rattle.recorder.specs.Recording.{recorded, written}
 use Rattle.verdict_file.specs.Files.{Verdict, allowed, impossible, fileOf}
 use Rattle.verdict_file.specs.Writing.{room, put}
 use Rattle.verdict_file.proofs.Put.{put-there}
 use Rattle.replay.specs.Replaying as replaying
 use Rattle.replay.specs.Replaying.{replayLog}
+use Rattle.replay.proofs.Demand2.{yes-few}
 use Rattle.judge.specs.Clearing.{zeros}
-use Rattle.judge.specs.Judging as judging
-use Rattle.judge.specs.Judging.{Answer, gives, refused, answerOf, Outcome, outcomeOf, refusal, verdict, areasFit}
+use Rattle.judge.specs.Judging.{gives, refused, answerOf, told, Outcome, outcomeOf, refusal, verdict, areasFit}
 use Rattle.judge.specs.Judging.{Right, JudgesLog, Judges}
 use Rattle.judge.specs.declared.Judged.{Judged}
 use Rattle.judge.proofs.Deciding.{fit-out}
 use Rattle.promises.proofs.Verdicts as verdicts
-
-abbrev pub told : Verdict → Answer
-told = judging.told
-
--- A call of `record` that refuses leaves the buffer as it was.
-pub record-untouched : (buf : List ℕ) (used tag : ℕ) (payload : List ℕ) (number : ℕ)
-    → recorded buf used tag payload ≡ recording.rejected number
-    → written (recorded buf used tag payload) buf used tag payload ≡ buf
-record-untouched buf used tag payload number e = rw e
 
 -- Bytes put at a position leave those before it and those after them.
 module _ (l : List ℕ) (at : ℕ) (bytes : List ℕ) (h : at ≤ length l) where
@@ -151,11 +140,12 @@ module _ (s out : List ℕ) (offset : ℕ) (scratch : List ℕ) (j : Judged) (ou
             × (take len (drop offset out') ≡ fileOf (allowed ps))
             × (length ps ≡ steps)
             × (steps ≤ 256)
+        unfolding Right
         step-count = (
           found .0,
           bytes,
           found .2,
-          omega (arith, found .2, verdicts.few-steps s r read (found .0) right-steps),
+          omega (arith, found .2, yes-few s (found .0) right-steps),
         )
 
       pub impossible-file : (e len : ℕ) → answerOf j ≡ gives 0 e 0 len

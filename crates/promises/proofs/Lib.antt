@@ -1,3 +1,5 @@
+pub mod Readings
+pub mod Recordings
 pub mod Verdicts
 pub mod Judgements
 pub mod Promises

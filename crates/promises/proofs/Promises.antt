@@ -1,54 +1,115 @@
 -- What Malluvom promises: document 01's three demands as theorems. Each speaks of a public call by what its contract
--- ensures, and of nothing else of the program. What a reader has to believe is `Cxl0` and `Schedule` of crate model;
--- `Records`, `Bytes`, `Reading`, `Refusals` and `Recording` of log; `Files`, `Schedules` and `Writing` of verdict_file;
--- `Replaying` of replay and `Judging` of judge. No public call has a `requires`, and every call ends: the checker asks
--- that of each function. That the model is the published one is shown beside it: the eight facts of source 000's
--- Proposition 1 in model's `Proposition1`, and what flushes and MStores make sure of in `Persistence`.
-use Prim.Native.Nat.{ℕ, _+_, _*_, _-_, _≤_}
-use mathlib.Core.Path.{_≡_, sym, _∙_}
+-- ensures, and of nothing else of the program. docs/TRUSTED.md lists the definitions that a reader has to believe. No
+-- public call has a `requires`, and every call ends: the checker asks that of each function. That the model is the
+-- published one is shown beside it: the eight facts of source 000's Proposition 1 in model's `Proposition1`, and what
+-- flushes and MStores make sure of in `Persistence`.
+use Prim.Native.Nat.{ℕ, _+_, _*_, _-_, _≤_, _<_}
+use mathlib.Core.Path.{_≡_, sym, ap, _∙_}
 use mathlib.Core.Logic.{_↔_}
 use mathlib.Core.Bool.{true, false}
-use mathlib.Core.List.{List, List·Memᴰ}
+use mathlib.Core.List.{List, List·Memᴰ, _++_}
 use mathlib.Core.Option.{some}
+use lib.Dec.{T}
 use lib.ListN.{length, take, drop}
-use Rattle.model.specs.Cxl0.{Topology, WellFormed, start, Action, Run, HasRun, events, silents, count, isStore, isLoad}
-use Rattle.model.specs.Schedule.{Step, weave}
+use Rattle.model.specs.Cxl0.{Machine, Location, Value, Topology, WellFormed, start, Event, Action, after, Run, HasRun}
+use Rattle.model.specs.Cxl0.{events, silents, count, isStore, isLoad}
+use Rattle.model.specs.Schedule.{Step, weave, schedule, inOrder}
 use Rattle.model.specs.MarkedLogs.{MarkedLog, logs}
 use Rattle.model.specs.MarkedLogs as marked
 use Rattle.model.proofs.Theorems
 use Rattle.log.specs.Records.{Records, systemOf, WithinLimits}
-use Rattle.log.specs.Bytes.{encode}
+use Rattle.log.specs.Bytes.{Bytes, field, encode}
 use Rattle.log.specs.Reading.{accepted, rejected, readLog}
-use Rattle.log.specs.Bytes.{Bytes}
+use Rattle.log.specs.Reading as reading
 use Rattle.log.proofs.OneForm
+use Rattle.reader.specs.Answers as read
+use Rattle.reader.specs.declared.Reading.{Reading}
 use Rattle.recorder.specs.Recording as recording
-use Rattle.recorder.specs.Recording.{recorded, written}
+use Rattle.recorder.specs.Recording.{Call, Handed, recordedOf, Sequence}
+use Rattle.recorder.specs.declared.Recorded.{Recorded}
+use Rattle.recorder.proofs.Sequences
 use Rattle.verdict_file.specs.Files.{Verdict, allowed, impossible, fileOf}
-use Rattle.verdict_file.specs.Schedules.{readSchedule}
 use Rattle.replay.specs.Replaying as replaying
-use Rattle.replay.specs.Replaying.{replayLog}
-use Rattle.replay.specs.Answers as told
+use Rattle.replay.specs.Replaying.{Stops, Admitted, replayLog}
+use Rattle.replay.specs.Answers as replay
 use Rattle.replay.specs.declared.Replayed.{Replayed}
-use Rattle.replay.specs.Replaying.{Stops}
 use Rattle.replay.proofs.Demand2
 use Rattle.judge.specs.Clearing.{zeros}
-use Rattle.judge.specs.Judging.{Answer, gives, refused, answerOf, outcomeOf, areasFit, Judges}
+use Rattle.judge.specs.Judging.{Answer, gives, refused, answerOf, outcomeOf, told, areasFit, Judges}
 use Rattle.judge.specs.declared.Judged.{Judged}
+use Rattle.promises.proofs.Readings
+use Rattle.promises.proofs.Recordings
 use Rattle.promises.proofs.Judgements
 
 -- ==== Demand 1: what is refused, and what is accepted
 
 -- A log is accepted exactly when its bytes are the encoding of records within the limits; every other is refused by
--- the number that `readLog` gives, in the documented order. `read` answers what `readLog` says.
+-- the number that `readLog` gives, in the documented order.
 pub accepted-exactly : (s : List ℕ) → Bytes s → (r : Records)
     → (readLog s ≡ accepted r) ↔ (WithinLimits r × (encode r ≡ s))
 accepted-exactly = OneForm.accepted-iff
 
--- A call of `record` that refuses leaves the buffer as it was.
-pub record-untouched : (buf : List ℕ) (used tag : ℕ) (payload : List ℕ) (number : ℕ)
-    → recorded buf used tag payload ≡ recording.rejected number
-    → written (recorded buf used tag payload) buf used tag payload ≡ buf
-record-untouched = Judgements.record-untouched
+-- What `read` answered, as its contract ensures it.
+module _ (s : List ℕ) (a : Reading) (answered : read.meaningOf a ≡ read.summaryOf (readLog s)) where
+  -- A refused log gives its number.
+  pub read-refused : (number : ℕ) → readLog s ≡ rejected number → read.meaningOf a ≡ read.refused number
+  read-refused = Readings.read-refused s a answered
+
+  -- An accepted one gives its machines, which of them are persistent, and how many locations and events it has.
+  pub read-accepted : (r : Records) → readLog s ≡ accepted r
+      → read.meaningOf a ≡ read.holds (r .machines) (r .persistent) (length (r .homes)) (length (r .events))
+  read-accepted = Readings.read-accepted s a answered
+
+  -- The answer is no refusal exactly for the encodings of records within the limits.
+  pub read-exactly : Bytes s
+      → ((machines persistent locations events : ℕ)
+      × (read.meaningOf a ≡ read.holds machines persistent locations events))
+      ↔ ((r : Records) × WithinLimits r × (encode r ≡ s))
+  read-exactly = Readings.read-exactly s a answered
+
+-- What `record` answered, and the buffer afterwards, as its contract ensures them.
+module _ (buf : List ℕ) (used tag : ℕ) (payload : List ℕ) (a : Recorded) (buf' : List ℕ)
+    (call : Call buf used tag payload a buf') where
+  -- A refusal leaves every byte of the buffer as it was.
+  pub record-refused : (number : ℕ) → recording.answerOf a ≡ recording.rejected number → buf' ≡ buf
+  record-refused = Recordings.record-refused buf used tag payload a buf' call
+
+  -- A new count is that of the used bytes with the field, which stands after them; no other byte changes.
+  pub record-writes : (n : ℕ) → recording.answerOf a ≡ recording.count n
+      → (n ≡ used + 3 + length payload)
+      × (n ≤ length buf)
+      × (buf' ≡ take used buf ++ field tag payload ++ drop n buf)
+  record-writes = Recordings.record-writes buf used tag payload a buf' call
+
+  -- A used count past the buffer gives 1.
+  pub record-past : length buf < used → recording.answerOf a ≡ recording.rejected 1
+  record-past = Recordings.record-past buf used tag payload a buf' call
+
+  -- Then the used bytes are read. They give their refusal, or 12 if they hold the end.
+  module _ (inside : used ≤ length buf) where
+    pub record-used-refused : (number : ℕ) → reading.readFields 0 reading.nothing (take used buf) ≡ reading.refusal number
+        → recording.answerOf a ≡ recording.rejected number
+    record-used-refused = Recordings.record-used-refused buf used tag payload a buf' call inside
+
+    pub record-after-end : (r : Records) (rest : List ℕ)
+        → reading.readFields 0 reading.nothing (take used buf) ≡ reading.ended r rest
+        → recording.answerOf a ≡ recording.rejected 12
+    record-after-end = Recordings.record-after-end buf used tag payload a buf' call inside
+
+    -- Then the new field is read after them. It gives its refusal, and one that is not refused gives the new count, or 1
+    -- if it does not fit.
+    module _ (r : Records) (so-far : reading.readFields 0 reading.nothing (take used buf) ≡ reading.unfinished r) where
+      pub record-field-refused : (number : ℕ) → reading.admit r tag (length payload) payload ≡ reading.refused number
+          → recording.answerOf a ≡ recording.rejected number
+      record-field-refused = Recordings.record-field-refused buf used tag payload a buf' call inside r so-far
+
+      module _ (stands : (number : ℕ) → ¬ (reading.admit r tag (length payload) payload ≡ reading.refused number)) where
+        pub record-fits : used + 3 + length payload ≤ length buf
+            → recording.answerOf a ≡ recording.count (used + 3 + length payload)
+        record-fits = Recordings.record-fits buf used tag payload a buf' call inside r so-far stands
+
+        pub record-no-room : length buf < used + 3 + length payload → recording.answerOf a ≡ recording.rejected 1
+        record-no-room = Recordings.record-no-room buf used tag payload a buf' call inside r so-far stands
 
 -- What `judge` answered, and the areas afterwards, as its contract ensures them.
 module _ (s out : List ℕ) (offset : ℕ) (scratch : List ℕ) (j : Judged) (out' scratch' : List ℕ)
@@ -69,7 +130,7 @@ module _ (s out : List ℕ) (offset : ℕ) (scratch : List ℕ) (j : Judged) (ou
       -- The answer is that of the verdict whose file was written from the offset on; the rest of the output is as it
       -- was, and the scratch area is all zero.
       pub judge-writes : (v : Verdict)
-          × (answerOf j ≡ Judgements.told v)
+          × (answerOf j ≡ told v)
           × (take (length (fileOf v)) (drop offset out') ≡ fileOf v)
           × (take offset out' ≡ take offset out)
           × (drop (offset + length (fileOf v)) out' ≡ drop (offset + length (fileOf v)) out)
@@ -83,26 +144,45 @@ pub one-form : (s t : List ℕ) → Bytes s → Bytes t → (r : Records)
     → readLog s ≡ accepted r → readLog t ≡ accepted r → s ≡ t
 one-form = OneForm.one-form
 
+-- What a sequence of accepted calls of `record` wrote, the end last, is read as the records that were handed in.
+pub recorded-read : {buf buf' : List ℕ} {used : ℕ} {hs : List Handed} → Sequence buf 0 hs buf' used
+    → readLog (take used buf') ≡ accepted (recordedOf hs)
+recorded-read = Sequences.recorded-read
+
 -- What `replay` answered, as its contract ensures it.
-module _ (s f : List ℕ) (a : Replayed) (replayed : told.answerOf a ≡ replayLog s f) where
-  -- Yes exactly when log and schedule are read and together are a run of the whole system from empty caches and
+module _ (s f : List ℕ) (a : Replayed) (replayed : replay.answerOf a ≡ replayLog s f) where
+  -- A refused log gives its number, whatever the file.
+  pub replay-log-refused : (number : ℕ) → readLog s ≡ rejected number
+      → replay.answerOf a ≡ replaying.Answer.refused number
+  replay-log-refused number e = replayed ∙ Demand2.log-refused s f number e
+
+  -- With an accepted log, 13 exactly when the file is not of the form, does not say allowed or does not fit the log.
+  pub replay-file-refused : (r : Records) → readLog s ≡ accepted r
+      → (replay.answerOf a ≡ replaying.Answer.refused 13) ↔ ((ps : List Step) → ¬ Admitted s f r ps)
+  replay-file-refused r read = rw replayed (Demand2.file-refused s f r read)
+
+  -- Yes exactly when log and schedule are admitted and together are a run of the whole system from empty caches and
   -- initial memories.
-  pub replay-yes : (told.answerOf a ≡ replaying.Answer.yes)
-      ↔ ((r : Records)
-      × (ps : List Step)
-      × (readLog s ≡ accepted r)
-      × (readSchedule (systemOf r) (length (r .events)) f ≡ some ps)
-      × Run (systemOf r) (weave (r .events) ps))
+  pub replay-yes : (replay.answerOf a ≡ replaying.Answer.yes)
+      ↔ ((r : Records) × (ps : List Step) × Admitted s f r ps × Run (systemOf r) (weave (r .events) ps))
   replay-yes = rw replayed (Demand2.yes-exactly s f)
 
-  -- No, and how many events passed, where the first thing not possible comes after so many events.
-  pub replay-no : (k : ℕ) → told.answerOf a ≡ replaying.Answer.no k
-      → (r : Records)
+  -- No and k exactly when they are admitted and k events pass before the first thing not possible.
+  pub replay-no : (k : ℕ)
+      → (replay.answerOf a ≡ replaying.Answer.no k)
+      ↔ ((r : Records)
       × (ps : List Step)
-      × (readLog s ≡ accepted r)
-      × (readSchedule (systemOf r) (length (r .events)) f ≡ some ps)
-      × Stops (systemOf r) (weave (r .events) ps) (start (systemOf r)) k
-  replay-no k e = Demand2.no-passed s f k (sym replayed ∙ e)
+      × Admitted s f r ps
+      × Stops (systemOf r) (weave (r .events) ps) (start (systemOf r)) k)
+  replay-no k = rw replayed (Demand2.no-exactly s f k)
+
+  -- What is admitted and is no run gets no.
+  pub replay-no-otherwise : (r : Records) (ps : List Step) → Admitted s f r ps
+      → ¬ Run (systemOf r) (weave (r .events) ps)
+      → (k : ℕ) × (replay.answerOf a ≡ replaying.Answer.no k)
+  replay-no-otherwise r ps admitted not-run =
+      let (k, said) = Demand2.no-otherwise s f r ps admitted not-run in
+      (k, replayed ∙ said)
 
 -- ==== Demand 3: allowed and impossible
 
@@ -143,7 +223,23 @@ pub bound : (sys : Topology) → WellFormed sys → (acts : List Action) → Run
     → length (silents acts) ≤ 2 * count isStore (events acts) + count isLoad (events acts)
 bound = Theorems.bound
 
--- ==== The marked logs
+-- Any choice of silent steps at any places is a schedule: a run is its events woven with its schedule, which is in order.
+pub weave-run : (sys : Topology) (acts : List Action) → Run sys acts
+    → T (inOrder 0 (length (events acts)) (schedule acts)) × (weave (events acts) (schedule acts) ≡ acts)
+weave-run = Theorems.weave-run
+
+-- And back: a schedule in order is the schedule of what it weaves with events, and these are the events of that.
+pub schedule-weave : (es : List Event) (ps : List Step) → T (inOrder 0 (length es) ps)
+    → (events (weave es ps) ≡ es) × (schedule (weave es ps) ≡ ps)
+schedule-weave = Theorems.schedule-weave
+
+-- ==== The model
+
+-- Copies of one location always agree in value, in every state that a run reaches.
+pub copies-agree : (sys : Topology) → WellFormed sys → (acts : List Action) → Run sys acts
+    → (i j : Machine) (x : Location) (u v : Value)
+    → after sys acts (start sys) .cache i x ≡ some u → after sys acts (start sys) .cache j x ≡ some v → u ≡ v
+copies-agree = Theorems.copies-agree
 
 -- The fourteen marked logs have the verdicts that document 01 gives them, by the definitions alone.
 pub marked-logs : (l : MarkedLog) → List·Memᴰ l logs

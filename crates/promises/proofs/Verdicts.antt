@@ -86,8 +86,8 @@ module _ (s : List ℕ) (r : Records) (read : readLog s ≡ accepted r) where
   pub allowed-runs : (ps : List Step) → Right s r (allowed ps) → HasRun (systemOf r) (r .events)
   unfolding Right HasRun
   allowed-runs ps right =
-      let (q, qs, log, schedule, run) = yes-exactly s (fileOf (allowed ps)) .0 right in
-      let same = same-records (sym log ∙ read) in
+      let (q, qs, admitted, run) = yes-exactly s (fileOf (allowed ps)) .0 right in
+      let same = same-records (sym (admitted .log) ∙ read) in
       subst (λ (p : Records). HasRun (systemOf p) (p .events)) same
       (weave (q .events) qs, events-weave (q .events) qs, run)
 
@@ -121,14 +121,3 @@ module _ (s : List ℕ) (r : Records) (read : readLog s ≡ accepted r) where
         let same = ends-first (systemOf r) (r .events) d e right ends in
         (length (fileOf (impossible d)), ap (λ (k : ℕ). gives 0 k 0 (length (fileOf (impossible d)))) same),
   )
-
-  -- A schedule that replay says yes to has at most 256 steps.
-  pub few-steps : (ps : List Step) → Right s r (allowed ps) → length ps ≤ 256
-  unfolding Right scheduleFits
-  few-steps ps right =
-      let (q, qs, log, schedule, run) = yes-exactly s (fileOf (allowed ps)) .0 right in
-      let n = length (q .events) in
-      let (same, fits) = accepts (systemOf q) n qs (fileOf (allowed ps)) .0 schedule in
-      let short = leb (length qs) stepsMost in
-      let few = and-l short (inOrder 0 n qs) (and-l (short && inOrder 0 n qs) (everyStepFits (systemOf q) qs) fits) in
-      omega (arith, length-allowed ps, length-allowed qs, ap length same, leb→le (length qs) stepsMost few)

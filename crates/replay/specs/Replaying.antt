@@ -12,7 +12,8 @@ use Rattle.model.specs.Cxl0.{runs, after, events}
 use Rattle.model.specs.Schedule.{Step, weave}
 use Rattle.log.specs.Records.{Records, systemOf}
 use Rattle.log.specs.Reading.{Log, accepted, rejected, readLog}
-use Rattle.verdict_file.specs.Schedules.{readSchedule}
+use Rattle.verdict_file.specs.Files.{allowed, fileOf}
+use Rattle.verdict_file.specs.Schedules.{scheduleFits, readSchedule}
 
 -- Yes, or no and the number of events passed before the first thing not possible; or the number of a refusal.
 pub data Answer : Type 0 where
@@ -55,3 +56,10 @@ pub record Stops (sys : Topology) (acts : List Action) (s : State) (k : ℕ) : T
   pub run : T (runs sys ahead s)
   pub impossible : T (not (possible sys stop (after sys ahead s)))
   pub passed : length (events ahead) ≡ k
+
+-- The log s is accepted with the records r, and f is the verdict file that says allowed with the steps ps, which fit the
+-- log.
+pub record Admitted (s f : List ℕ) (r : Records) (ps : List Step) : Type 0 where
+  pub log : readLog s ≡ accepted r
+  pub file : f ≡ fileOf (allowed ps)
+  pub fits : T (scheduleFits (systemOf r) (length (r .events)) ps)
