@@ -1,22 +1,15 @@
 -- The counts of the answers fit the bits that they get.
-use Prim.Native.Nat.{ℕ, _≤_}
+use Prim.Native.Nat.{ℕ}
 use native.Mathlib.Omega.{arith}
-use mathlib.Core.Path.{_≡_, refl, sym, ap}
-use mathlib.Core.Bool.{Bool, true, false, _&&_}
+use mathlib.Core.Path.{_≡_, refl, sym}
+use mathlib.Core.Bool.{Bool, true, false}
 use mathlib.Core.List.{List}
-use lib.Dec.{leb, leb→le}
-use lib.ListN.{length}
-use Rattle.model.specs.Schedule.{Step, inOrder}
-use Rattle.model.proofs.Tests.{and-l}
-use Rattle.log.specs.Records.{Records, systemOf}
+use Rattle.log.specs.Records.{Records}
 use Rattle.log.specs.Reading.{Log, accepted, rejected, readLog}
 use Rattle.recorder.specs.Recording.{Recorded, count, rejected, recorded}
 use Rattle.recorder.proofs.Counts.{count-most}
-use Rattle.verdict_file.specs.Files.{Verdict, allowed, impossible, fileOf, stepsMost}
-use Rattle.verdict_file.specs.Schedules.{everyStepFits, scheduleFits}
-use Rattle.verdict_file.proofs.Files.{length-allowed, length-impossible, short}
-use Rattle.verdict_file.proofs.Accepted as schedules
-use Rattle.replay.specs.Replaying.{yes, replayLog}
+use Rattle.verdict_file.specs.Files.{Verdict, allowed, impossible}
+use Rattle.verdict_file.proofs.Files.{length-impossible, short}
 use Rattle.replay.proofs.Demand2.{yes-few}
 use Rattle.judge.specs.Judging.{Outcome, refusal, told, verdict, areasFit, Right, JudgesLog, Judges}
 use Rattle.capi.specs.Packing.{RecordedFits, JudgedFits}

@@ -137,8 +137,8 @@ recoded c s = record { code = c; copy = s .copy; memory = s .memory }
 abbrev pub written : Local → Local
 written s = record { code = 0; copy = s .copy; memory = s .copy }
 
--- What silent steps come to where the owner is k: the copies keep their value, and either there were only moves or they are
--- written back.
+-- What silent steps come to where the owner is k: the copies keep their value, and either there were only moves or they
+-- are written back.
 abbrev pub Reaches : Machine → Local → Local → Type 0
 Reaches k s t =
     (t .copy ≡ s .copy)

@@ -4,7 +4,7 @@
 -- published one is shown beside it: the eight facts of source 000's Proposition 1 in model's `Proposition1`, and what
 -- flushes and MStores make sure of in `Persistence`.
 use Prim.Native.Nat.{ℕ, _+_, _*_, _-_, _≤_, _<_}
-use mathlib.Core.Path.{_≡_, sym, ap, _∙_}
+use mathlib.Core.Path.{_≡_, _∙_}
 use mathlib.Core.Logic.{_↔_}
 use mathlib.Core.Bool.{true, false}
 use mathlib.Core.List.{List, List·Memᴰ, _++_}
@@ -19,8 +19,7 @@ use Rattle.model.specs.MarkedLogs as marked
 use Rattle.model.proofs.Theorems
 use Rattle.log.specs.Records.{Records, systemOf, WithinLimits}
 use Rattle.log.specs.Bytes.{Bytes, field, encode}
-use Rattle.log.specs.Reading.{accepted, rejected, readLog}
-use Rattle.log.specs.Reading as reading
+use Rattle.log.specs.Reading.{Given, Outcome, nothing, admit, readFields, accepted, rejected, readLog}
 use Rattle.log.proofs.OneForm
 use Rattle.reader.specs.Answers as read
 use Rattle.reader.specs.declared.Reading.{Reading}
@@ -87,23 +86,23 @@ module _ (buf : List ℕ) (used tag : ℕ) (payload : List ℕ) (a : Recorded) (
 
   -- Then the used bytes are read. They give their refusal, or 12 if they hold the end.
   module _ (inside : used ≤ length buf) where
-    pub record-used-refused : (number : ℕ) → reading.readFields 0 reading.nothing (take used buf) ≡ reading.refusal number
+    pub record-used-refused : (number : ℕ) → readFields 0 nothing (take used buf) ≡ Outcome.refusal number
         → recording.answerOf a ≡ recording.rejected number
     record-used-refused = Recordings.record-used-refused buf used tag payload a buf' call inside
 
     pub record-after-end : (r : Records) (rest : List ℕ)
-        → reading.readFields 0 reading.nothing (take used buf) ≡ reading.ended r rest
+        → readFields 0 nothing (take used buf) ≡ Outcome.ended r rest
         → recording.answerOf a ≡ recording.rejected 12
     record-after-end = Recordings.record-after-end buf used tag payload a buf' call inside
 
-    -- Then the new field is read after them. It gives its refusal, and one that is not refused gives the new count, or 1
-    -- if it does not fit.
-    module _ (r : Records) (so-far : reading.readFields 0 reading.nothing (take used buf) ≡ reading.unfinished r) where
-      pub record-field-refused : (number : ℕ) → reading.admit r tag (length payload) payload ≡ reading.refused number
+    -- Then the new field is read after them. It gives its refusal; one that is not refused gives the new count, or 1 if it
+    -- does not fit.
+    module _ (r : Records) (so-far : readFields 0 nothing (take used buf) ≡ Outcome.unfinished r) where
+      pub record-field-refused : (number : ℕ) → admit r tag (length payload) payload ≡ Given.refused number
           → recording.answerOf a ≡ recording.rejected number
       record-field-refused = Recordings.record-field-refused buf used tag payload a buf' call inside r so-far
 
-      module _ (stands : (number : ℕ) → ¬ (reading.admit r tag (length payload) payload ≡ reading.refused number)) where
+      module _ (stands : (number : ℕ) → ¬ (admit r tag (length payload) payload ≡ Given.refused number)) where
         pub record-fits : used + 3 + length payload ≤ length buf
             → recording.answerOf a ≡ recording.count (used + 3 + length payload)
         record-fits = Recordings.record-fits buf used tag payload a buf' call inside r so-far stands
@@ -223,7 +222,8 @@ pub bound : (sys : Topology) → WellFormed sys → (acts : List Action) → Run
     → length (silents acts) ≤ 2 * count isStore (events acts) + count isLoad (events acts)
 bound = Theorems.bound
 
--- Any choice of silent steps at any places is a schedule: a run is its events woven with its schedule, which is in order.
+-- Any choice of silent steps at any places is a schedule: a run is its events woven with its schedule, which is in
+-- order.
 pub weave-run : (sys : Topology) (acts : List Action) → Run sys acts
     → T (inOrder 0 (length (events acts)) (schedule acts)) × (weave (events acts) (schedule acts) ≡ acts)
 weave-run = Theorems.weave-run

@@ -1,23 +1,17 @@
 -- What a right verdict says of a log, in both directions.
-use Prim.Native.Nat.{ℕ, _-_, _≤_, _<_}
+use Prim.Native.Nat.{ℕ, _-_, _<_}
 use native.Mathlib.Omega.{arith}
 use mathlib.Core.Path.{_≡_, refl, sym, ap, _∙_, subst}
 use mathlib.Core.Logic.{_↔_}
-use mathlib.Core.Bool.{_&&_}
 use mathlib.Core.List.{List}
-use lib.Dec.{leb, leb→le}
 use lib.ListN.{length, take}
 use Rattle.model.specs.Cxl0.{Topology, Event, HasRun, FirstImpossible}
-use Rattle.model.specs.Schedule.{Step, weave, inOrder}
-use Rattle.model.proofs.Tests.{and-l}
+use Rattle.model.specs.Schedule.{Step, weave}
 use Rattle.model.proofs.Prefixes.{has-run-prefix, has-run-fewer}
 use Rattle.model.proofs.Weaving.{events-weave}
 use Rattle.log.specs.Records.{Records, systemOf}
 use Rattle.log.specs.Reading.{Log, accepted, rejected, readLog}
-use Rattle.verdict_file.specs.Files.{Verdict, allowed, impossible, fileOf, stepsMost}
-use Rattle.verdict_file.specs.Schedules.{everyStepFits, scheduleFits}
-use Rattle.verdict_file.proofs.Files.{length-allowed}
-use Rattle.verdict_file.proofs.Accepted.{accepts}
+use Rattle.verdict_file.specs.Files.{Verdict, allowed, impossible, fileOf}
 use Rattle.replay.proofs.Demand2.{yes-exactly}
 use Rattle.judge.specs.Judging.{Answer, gives, refused, told, Right}
 

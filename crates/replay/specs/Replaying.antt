@@ -57,8 +57,8 @@ pub record Stops (sys : Topology) (acts : List Action) (s : State) (k : ℕ) : T
   pub impossible : T (not (possible sys stop (after sys ahead s)))
   pub passed : length (events ahead) ≡ k
 
--- The log s is accepted with the records r, and f is the verdict file that says allowed with the steps ps, which fit the
--- log.
+-- The log s is accepted with the records r, and f is the verdict file that says allowed with the steps ps, which fit
+-- the log.
 pub record Admitted (s f : List ℕ) (r : Records) (ps : List Step) : Type 0 where
   pub log : readLog s ≡ accepted r
   pub file : f ≡ fileOf (allowed ps)
