@@ -5,12 +5,12 @@ Lists the public functions that have no `ensures`, and those with a `requires` o
 sentence below. Fails if there is one.
 """
 import pathlib
-import re
 import sys
 
 ROOT = pathlib.Path(__file__).resolve().parent.parent
+sys.path.insert(0, str(ROOT / "tools"))
+import antt  # noqa: E402
 INTERNAL = "Internal: only crates of this project call it, and they meet what it requires."
-FUNCTION = re.compile(r'^ *pub (?:extern "C" )?fn (\w+)(.*?)^ *\{', flags=re.M | re.S)
 
 
 def first_comment(crate):
@@ -30,13 +30,12 @@ def main():
         if inside:
             internal.append(crate.name)
         for path in sorted(crate.glob("src/**/*.rt")):
-            text = re.sub(r"//.*", "", path.read_text(encoding="utf-8"))
-            for name, contract in FUNCTION.findall(text):
+            for name, lines in antt.contracts(path.read_text(encoding="utf-8")).items():
                 functions += 1
-                where = f"{path.relative_to(ROOT)}: {name}"
-                if "ensures" not in contract:
+                where, clauses = f"{path.relative_to(ROOT)}: {name}", " ".join(lines).split()
+                if "ensures" not in clauses:
                     faults.append(f"{where} says nothing of what it returns")
-                if "requires" in contract and not inside:
+                if "requires" in clauses and not inside:
                     faults.append(f"{where} has a requires")
     print("\n".join(faults + [f"{functions} public functions; internal crates: {', '.join(internal)}"]))
     sys.exit(bool(faults))

@@ -14,6 +14,8 @@ import re
 import sys
 
 ROOT = pathlib.Path(__file__).resolve().parent.parent
+sys.path.insert(0, str(ROOT / "tools"))
+import antt  # noqa: E402
 PAGE = ROOT / "docs" / "TRUSTED.md"
 PROMISES = ROOT / "crates" / "promises" / "proofs" / "Promises.antt"
 # The public calls: those of document 01, and the same for C.
@@ -21,10 +23,6 @@ CALLS = [("reader", "read"), ("recorder", "record"), ("replay", "replay"), ("jud
 FOR_C = "capi"
 BEGIN, END = "<!-- tests/trusted.py writes from here -->", "<!-- to here -->"
 WORD = re.compile(r"\|\||\[\]|[^\s(){}\[\],;|⌜⌝]+")
-
-
-def without_comments(text, mark):
-    return re.sub(re.escape(mark) + r".*", "", text)
 
 
 def imports(text):
@@ -50,19 +48,10 @@ class Spec:
         self.path = path
         text = path.read_text(encoding="utf-8")
         self.names, self.modules = imports(text)
-        self.items, self.of, self.order = {}, {}, []
-        item = None
-        for line in without_comments(text, "--").split("\n"):
-            declared = re.match(r"(?:unfoldable |abbrev )?pub (?:record |data )?(\S+)", line)
-            if declared and not line.startswith("pub mod"):
-                item = declared.group(1)
-                self.items[item] = []
-                self.order.append(item)
-                self.of[item] = item
-            elif line.startswith("use ") or line.startswith("pub use "):
-                item = None
-            if item and line.strip():
-                self.items[item].append(line)
+        self.items = antt.definitions(text)
+        self.of = {item: item for item in self.items}
+        for item, lines in self.items.items():
+            for line in lines[1:]:
                 inside = re.match(r"  ([^:]*?) : ", line)
                 if inside and not inside.group(1).startswith(("pub ", "→", "×", "(")):
                     for name in inside.group(1).split():
@@ -128,42 +117,21 @@ class Closure:
                     self.take(*names[head], where)
 
 
-def contracts(path, wanted):
-    """The `ensures` of the public functions of a file, those wanted or all."""
-    text = without_comments(path.read_text(encoding="utf-8"), "//")
-    for name, signature in re.findall(r"^(?:#\[no_mangle\]\n)?pub (?:extern \"C\" )?fn (\w+)(.*?)^\{", text, flags=re.M | re.S):
-        if wanted is None or name == wanted:
-            if "requires" in signature:
-                raise SystemExit(f"{path.relative_to(ROOT)}: {name} has a requires")
-            yield name, "\n".join(re.findall(r"ensures[^{]*\{(.*?)⌝ \}", signature, flags=re.S))
-
-
-def statements(text):
-    """The statements of a page of theorems: signatures and the parameters of its modules, without the proofs."""
-    kept, on = [], False
-    for line in without_comments(text, "--").split("\n"):
-        bare = line.strip()
-        if bare.startswith(("pub ", "module ")):
-            on = True
-        elif re.match(r"\S+[^:]*? =( |$)", bare) and not bare.startswith(("(", "→", "×", "↔")):
-            on = False
-        if on and not bare.startswith("use "):
-            kept.append(re.sub(r"^pub \S+ :", "", bare))
-    return "\n".join(kept)
-
-
 def closure():
     c = Closure()
     calls = [(ROOT / "crates" / crate / "src" / "lib.rt", name) for crate, name in CALLS]
     calls.append((ROOT / "crates" / FOR_C / "src" / "lib.rt", None))
     for path, wanted in calls:
-        found = list(contracts(path, wanted))
+        text = path.read_text(encoding="utf-8")
+        found = {name: lines for name, lines in antt.contracts(text).items() if wanted in (None, name)}
         if not found:
             raise SystemExit(f"{path.relative_to(ROOT)}: no public call {wanted or ''}")
-        for name, text in found:
-            c.read(text, *imports(path.read_text(encoding="utf-8")), path.relative_to(ROOT))
+        for lines in found.values():
+            clauses = re.findall(r"ensures[^{]*\{(.*?)⌝ \}", "\n".join(lines), flags=re.S)
+            c.read("\n".join(clauses), *imports(text), path.relative_to(ROOT))
     page = PROMISES.read_text(encoding="utf-8")
-    c.read(statements(page), *imports(page), PROMISES.relative_to(ROOT))
+    for lines in antt.statements(page).values():
+        c.read("\n".join(lines), *imports(page), PROMISES.relative_to(ROOT))
     for spec in sorted((ROOT / "crates").glob("*/specs/*.antt")):
         for line in re.findall(r"^use \S*proofs\.\S*", spec.read_text(encoding="utf-8"), flags=re.M):
             c.faults.append(f"{spec.relative_to(ROOT)}: a spec imports a proof: {line}")
@@ -185,7 +153,7 @@ def listing(c):
     total = 0
     for path in sorted(files, key=place):
         spec = c.specs[path]
-        items = [item for item in spec.order if item in files[path]]
+        items = [item for item in spec.items if item in files[path]]
         count = sum(len(spec.items[item]) for item in items)
         total += count
         short = path.relative_to(ROOT)
