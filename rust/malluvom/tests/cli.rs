@@ -147,14 +147,18 @@ fn errors_have_status_2_and_say_what_is_wrong() {
         &["asm", "a", "b"],
         &["show", "/nowhere"],
         &["frobnicate"],
-        &[],
         &["judge", "--fast", "x"],
         &["draw", "x", "-o"],
         &["replay", "x"],
     ] {
         assert_eq!(status(&tool(words)), 2, "{words:?}");
     }
-    assert_eq!(status(&tool(&["help"])), 0);
+    let help = tool(&["help"]);
+    assert_eq!(status(&help), 0);
+    assert!(!help.stdout.is_empty());
+    for words in [&[][..], &["--help"], &["-h"]] {
+        assert_eq!(tool(words).stdout, help.stdout, "{words:?}");
+    }
 }
 
 #[test]

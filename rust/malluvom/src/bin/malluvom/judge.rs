@@ -10,9 +10,7 @@ use malluvom::{Judge, Judged, Refusal, Schedule};
 use crate::failure::Failure;
 use crate::files;
 use crate::options::Options;
-
-/// A line of progress comes after so many files.
-const PROGRESS: usize = 1000;
+use crate::progress::Progress;
 
 pub fn command(words: &[OsString]) -> Result<u8, Failure> {
     let options = Options::parse(words, &["--json", "--write"], &[])?;
@@ -28,25 +26,23 @@ pub fn command(words: &[OsString]) -> Result<u8, Failure> {
         }
     }
     let mut judge = Judge::new();
+    let mut progress = Progress::new();
     for (done, path) in paths.iter().enumerate() {
         match one(&mut judge, path, options.has("--write"), &mut count) {
             Ok(answer) if options.has("--json") => files::print(&answer.json(path))?,
             Ok(answer) => files::print(&answer.line(path))?,
-            Err(failure) => count.failed(&failure),
+            Err(failure) => {
+                progress.clear();
+                count.failed(&failure);
+            }
         }
-        if (done + 1) % PROGRESS == 0 {
-            progress(&format!("judged {} of {}", done + 1, paths.len()));
-        }
+        progress.at(done + 1, paths.len());
     }
+    progress.clear();
     if paths.len() != 1 {
-        progress(&count.summary());
+        let _ = writeln!(std::io::stderr(), "{}", count.summary());
     }
     Ok(count.status())
-}
-
-/// Says something on standard error, if there is one.
-fn progress(message: &str) {
-    let _ = writeln!(std::io::stderr(), "{message}");
 }
 
 #[derive(Default)]

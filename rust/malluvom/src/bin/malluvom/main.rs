@@ -7,6 +7,7 @@ mod failure;
 mod files;
 mod judge;
 mod options;
+mod progress;
 mod replay;
 mod run;
 mod show;
@@ -52,7 +53,7 @@ fn main() -> ExitCode {
 /// Runs one command and gives the exit status.
 fn run(words: &[std::ffi::OsString]) -> Result<u8, Failure> {
     let Some((command, rest)) = words.split_first() else {
-        return Err(Failure::usage("which command?"));
+        return files::print(HELP).map(|()| 0);
     };
     match command.to_string_lossy().as_ref() {
         "asm" => asm::command(rest),
