@@ -36,10 +36,10 @@ decimal-more (suc k) h =
     rw (le-ltb (suc k) 10 h, steady k tenth tenth (omega arith) (omega arith))
 
 -- Nought is one digit, and 1,544 four.
-decimal-0 : decimalOf 0 ≡ 48 ∷ []
+pub decimal-0 : decimalOf 0 ≡ 48 ∷ []
 unfolding decimalOf digitsUpTo
 decimal-0 = refl
 
-decimal-1544 : decimalOf 1544 ≡ 49 ∷ 53 ∷ 52 ∷ 52 ∷ []
+pub decimal-1544 : decimalOf 1544 ≡ 49 ∷ 53 ∷ 52 ∷ 52 ∷ []
 unfolding decimalOf digitsUpTo
 decimal-1544 = refl

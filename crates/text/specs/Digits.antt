@@ -7,8 +7,8 @@ use lib.Dec.{leb, ltb}
 abbrev pub digit : ℕ → ℕ
 digit v = 48 + v
 
--- The digits of a number in base ten: those of its tenth, and then its unit. A number has no more digits than it has
--- units, so the first argument, which only bounds the recursion, may be the number.
+-- The digits of a number in base ten: those of its tenth, and then its unit. The first argument only bounds the
+-- recursion, and the number is bound enough: proofs/Decimals.antt has the equations of `decimalOf` without it.
 unfoldable pub digitsUpTo : ℕ → ℕ → List ℕ
 digitsUpTo zero v = digit v ∷ []
 digitsUpTo (suc k) v = cond (ltb v 10) (digit v ∷ []) (digitsUpTo k (v / 10) ++ (digit (v % 10) ∷ []))

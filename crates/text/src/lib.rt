@@ -1,7 +1,7 @@
-// Numbers as text, for the programs: digits into a buffer, and back out of a text. What is put stands from its position
-// on, as far as the buffer reaches, no other byte changes, and the call gives the position after it (specs/Putting.antt).
-// Reading ends at the first byte that is no digit and where there is no more room, and gives where that is and what was
-// read up to there (specs/Reading.antt). specs/Digits.antt has the digits.
+// Numbers as text, for the programs: digits into a buffer, and back out of a text. What is put stands from its
+// position on, as far as the buffer reaches, no other byte changes, and the call gives the position after it
+// (specs/Putting.antt). Reading ends at the first byte that is no digit and where there is no more room, and gives
+// where that is and what was read up to there (specs/Reading.antt). specs/Digits.antt has the digits.
 ghost use mathlib.Core.Path.{_≡_};
 ghost use mathlib.Core.List.{[], _∷_};
 ghost use Prim.Native.Nat.{_<_};

@@ -1,4 +1,5 @@
--- `put_decimal`, which calls itself, puts `decimalOf`: the digits of the tenth, and then the unit. The measure is the number.
+-- `put_decimal`, which calls itself, puts `decimalOf`: the digits of the tenth, and then the unit.
+-- The measure is the number.
 use Prim.Native.Nat.{ℕ, _/_, _<_}
 use native.Mathlib.Omega.{arith}
 use mathlib.Core.List.{[], _∷_}
@@ -44,7 +45,8 @@ module _ (t : ℕ) where
   returns : lts.Need-returns claims given put-decimal.Post
   returns c =
       let put = c .before .before in
-      rw (decimal-one _ (put .before .before .if1 .taken)) (put .put-byte .ensures)
+      let v = put .before .before .before .before .args .v in
+      rw (decimal-one v (omega arith)) (put .put-byte .ensures)
 
   put-decimal-requires : lts.Need-put-decimal-requires claims given put-decimal.Post
   put-decimal-requires c κs = (omega arith, tt)
