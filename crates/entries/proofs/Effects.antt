@@ -1,21 +1,19 @@
--- An action at one location: bytes that are those of its effect make an entry that stands for the effect.
+-- An action at one location: the entry of its effect, byte by byte, and what that entry stands for.
 use Prim.Native.Nat.{ℕ, _<_, _≤_, _%_, _^_}
-use native.Mathlib.Nat.{mod-lt, mod-eq-of-lt, lt-of-lt-of-le, lt-of-le-of-lt}
+use native.Mathlib.Nat.{mod-lt, mod-eq-of-lt, lt-of-lt-of-le}
 use native.Mathlib.Omega.{arith}
-use mathlib.Core.Path.{_≡_, _∙_, subst}
-use mathlib.Core.Bool.{Bool, true, cond, _&&_}
-use lib.Dec.{T, eqb, eqb-refl}
+use mathlib.Core.Path.{_≡_}
+use mathlib.Core.Bool.{Bool, _&&_}
+use lib.Dec.{T}
 use lib.Pow.{pow-pos, pow-mono}
-use Rattle.model.specs.Cxl0.{Machine, Location, isMachine, isLocation, initial}
-use Rattle.model.specs.Cxl0.{Action, event, Crash, clears, named}
-use Rattle.model.specs.Sharers.{remove}
+use Rattle.model.specs.Cxl0.{Location, Action, named}
 use Rattle.model.specs.OneLocation.{Local, concerns, enabledAt, effect, nextAt}
 use Rattle.model.specs.Meaning.{topologyOf, withinLimits}
 use Rattle.model.specs.declared.Topology as topology
-use Rattle.entries.specs.Entries.{localOf, admits, Acts}
+use Rattle.entries.specs.Entries.{localOf, entryOf, entryAfter}
 use Rattle.entries.specs.declared.Entry as entry
+use Rattle.entries.specs.declared.Acted as acted
 use Rattle.model.proofs.Tests.{and-l, and-r, T→true}
-use Rattle.model.proofs.Sharers.{remove-le}
 use Rattle.model.proofs.Limits.{within}
 use Rattle.model.proofs.Expand.{nextAt-bound}
 
@@ -26,67 +24,42 @@ asked t a x e = enabledAt (topologyOf t) x a (localOf (t .machines) e)
 abbrev pub made : topology.Topology → Action → Location → entry.Entry → Local
 made t a x e = effect (topologyOf t) x a (localOf (t .machines) e)
 
+-- Entries with the same copy are equal if their sharers and memory are, and answers if what they say is.
+
+pub same-entry : {b d c m n : ℕ} → b ≡ d → m ≡ n
+    → _≡_ {A = entry.Entry}
+    (record { sharers = b; copy = c; memory = m })
+    (record { sharers = d; copy = c; memory = n })
+same-entry {c} p q = λ i. record { sharers = p i; copy = c; memory = q i }
+
+pub same-acted : {b d : Bool} {e f : entry.Entry} → b ≡ d → e ≡ f
+    → _≡_ {A = acted.Acted} (record { enabled = b; entry = e }) (record { enabled = d; entry = f })
+same-acted p q = λ i. record { enabled = p i; entry = q i }
+
 -- An entry's code is one of the system's machines.
 pub local-range : (n : ℕ) (e : entry.Entry) → localOf n e .code < 2 ^ n
 unfolding localOf
 local-range n e = mod-lt (e .sharers) (pow-pos n)
 
--- An action of location x and no other.
-pub record Here (t : topology.Topology) (a : Action) (x : Location) : Type 0 where
-  pub alone : (y : Location) → concerns y a ≡ eqb y x
-  pub listed : T (named (topologyOf t) a) → T (isLocation (topologyOf t) x)
+-- The topology is within the limits and has the machines and the location that an action names.
+unfoldable pub admits : topology.Topology → Action → Bool
+admits t a = withinLimits t && named (topologyOf t) a
 
--- An action by machine i at location x.
-pub by-machine : (t : topology.Topology) (i : Machine) (x : Location) (a : Action)
-    → ((y : Location) → concerns y a ≡ eqb y x)
-    → named (topologyOf t) a ≡ (isMachine (topologyOf t) i && isLocation (topologyOf t) x)
-    → Here t a x
-by-machine t i x a f n =
-    record {
-      alone = f;
-      listed = λ h. and-r (isMachine (topologyOf t) i) (isLocation (topologyOf t) x) (subst T n h);
-    }
-
-byte-code : (n c b : ℕ) → n ≤ 6 → c < 2 ^ n → b ≡ c % 256 → b % 2 ^ n ≡ c
-byte-code n c b k l e =
+-- The code of a set of at most 6 machines is read back from its byte.
+byte-code : (n c : ℕ) → n ≤ 6 → c < 2 ^ n → c % 256 % 2 ^ n ≡ c
+byte-code n c k l =
     let m : n ≤ 8 = omega arith in
     let h : c < 256 = lt-of-lt-of-le l (pow-mono m) in
-    rw (e, mod-eq-of-lt h) (mod-eq-of-lt l)
+    rw (mod-eq-of-lt h) (mod-eq-of-lt l)
 
--- An entry whose byte of sharers, copy and memory are those of the effect stands for it.
-by-bytes : (t : topology.Topology) (a : Action) (x : Location) → Here t a x → T (admits t a)
-    → (e after : entry.Entry)
-    → after .sharers ≡ made t a x e .code % 256
-    → after .copy ≡ made t a x e .copy
-    → after .memory ≡ made t a x e .memory
-    → localOf (t .machines) after ≡ made t a x e
-unfolding admits topologyOf nextAt localOf
-by-bytes t a x here h e after b c m =
+-- Where the topology admits an action that concerns x, the entry of x after it stands for its effect.
+pub stands : (t : topology.Topology) (a : Action) (x : Location) → T (concerns x a) → T (admits t a)
+    → (e : entry.Entry) → localOf (t .machines) (entryAfter t a x e) ≡ made t a x e
+unfolding admits topologyOf nextAt localOf entryOf entryAfter
+stands t a x here h e =
     let w = within t (and-l (withinLimits t) (named (topologyOf t) a) h) in
     let n = and-r (withinLimits t) (named (topologyOf t) a) h in
-    let f : concerns x a ≡ true = here .alone x ∙ T→true (eqb-refl x) in
     let r = local-range (t .machines) e in
-    let l = rw f at (nextAt-bound (topologyOf t) x (w .well-formed) a (localOf (t .machines) e) n r) in
-    let k = byte-code (t .machines) _ (after .sharers) (w .machines-few) l b in
-    λ i. record { code = k i; copy = c i; memory = m i }
-
--- An answer with these bytes is what a method owes.
-pub acts-bytes : (t : topology.Topology) (a : Action) (x : Location) → Here t a x → (e after : entry.Entry)
-    → {d : Bool} → d ≡ asked t a x e
-    → after .sharers ≡ made t a x e .code % 256
-    → after .copy ≡ made t a x e .copy
-    → after .memory ≡ made t a x e .memory
-    → Acts t a x e (record { enabled = d; entry = after })
-acts-bytes t a x here e after q b c m = (q, λ h. by-bytes t a x here h e after b c m)
-
--- Without i's copy, and with memory cleared or not, an entry stands for what the crash leaves of it.
-pub left : (t : topology.Topology) (i : Machine) (x : Location) (e : entry.Entry) (b m : ℕ)
-    → b ≡ remove i (localOf (t .machines) e .code)
-    → m ≡ cond (clears (topologyOf t) (Crash i) x) 0 (e .memory)
-    → localOf (t .machines) (record { sharers = b; copy = e .copy; memory = m })
-    ≡ made t (event (Crash i)) x e
-unfolding localOf effect initial
-left t i x e b m p q =
-    let l = lt-of-le-of-lt (remove-le i (localOf (t .machines) e .code)) (local-range (t .machines) e) in
-    let k : b % 2 ^ t .machines ≡ remove i (localOf (t .machines) e .code) = rw p (mod-eq-of-lt l) in
-    λ j. record { code = k j; copy = e .copy; memory = q j }
+    let l = nextAt-bound (topologyOf t) x (w .well-formed) a (localOf (t .machines) e) n r in
+    let k = byte-code (t .machines) _ (w .machines-few) (rw (T→true {b = concerns x a} here) at l) in
+    λ i. record { code = k i; copy = made t a x e .copy; memory = made t a x e .memory }

@@ -1,11 +1,10 @@
 // What each action makes of the entry of its location. Names that the system does not have are for the state
-// to refuse.
+// to refuse; the equations hold for them too.
 ghost use mathlib.Core.Path.{_≡_};
 ghost use Rattle.model.specs.Cxl0.{event, LStore, RStore, MStore, Load, LFlush, RFlush, Crash, clears};
 ghost use Rattle.model.specs.Cxl0.{silent, Propagate, WriteBack};
-ghost use Rattle.model.specs.OneLocation.{effect};
 ghost use Rattle.model.specs.Meaning.{topologyOf};
-ghost use Rattle.entries.specs.Entries.{localOf, Acts};
+ghost use Rattle.entries.specs.Entries.{localOf, entryOf, entryAfter, actedOf};
 use super::Acted;
 use super::Entry;
 use model::Location;
@@ -33,9 +32,21 @@ impl Entry {
         up_to(n, c)
     }
 
+    // The entry with the bits of the system's machines and no others.
+    fn masked(self, t: Topology) -> Entry
+        ensures { λ r. ⌜ r ≡ entryOf (localOf (t .machines) self) ⌝ }
+    {
+        let sharers = self.code(t);
+        Entry {
+            sharers,
+            copy: self.copy,
+            memory: self.memory,
+        }
+    }
+
     // i's cache gets v; every other cache loses x.
     pub fn l_store(self, t: Topology, i: Machine, x: Location, v: u32) -> Acted
-        ensures { λ r. ⌜ Acts t (event (LStore (i .0) (x .0) v)) (x .0) self r ⌝ }
+        ensures { λ r. ⌜ r ≡ actedOf t (event (LStore (i .0) (x .0) v)) (x .0) self ⌝ }
     {
         let entry = Entry {
             sharers: bit(i),
@@ -50,7 +61,7 @@ impl Entry {
 
     // The owner's cache gets v; every other cache loses x.
     pub fn r_store(self, t: Topology, i: Machine, x: Location, v: u32) -> Acted
-        ensures { λ r. ⌜ Acts t (event (RStore (i .0) (x .0) v)) (x .0) self r ⌝ }
+        ensures { λ r. ⌜ r ≡ actedOf t (event (RStore (i .0) (x .0) v)) (x .0) self ⌝ }
     {
         let k = t.owner(x);
         let entry = Entry {
@@ -66,23 +77,23 @@ impl Entry {
 
     // Memory gets v; every cache loses x.
     pub fn m_store(self, t: Topology, i: Machine, x: Location, v: u32) -> Acted
-        ensures { λ r. ⌜ Acts t (event (MStore (i .0) (x .0) v)) (x .0) self r ⌝ }
+        ensures { λ r. ⌜ r ≡ actedOf t (event (MStore (i .0) (x .0) v)) (x .0) self ⌝ }
     {
-        let entry = Entry {
+        let stored = Entry {
             sharers: 0,
             copy: self.copy,
             memory: v,
         };
         Acted {
             enabled: true,
-            entry,
+            entry: stored,
         }
     }
 
     // If no cache holds x, memory must hold v, and nothing changes. If one does, it must hold v, and i's
     // cache gets v too.
     pub fn load(self, t: Topology, i: Machine, x: Location, v: u32) -> Acted
-        ensures { λ r. ⌜ Acts t (event (Load (i .0) (x .0) v)) (x .0) self r ⌝ }
+        ensures { λ r. ⌜ r ≡ actedOf t (event (Load (i .0) (x .0) v)) (x .0) self ⌝ }
     {
         let c = self.code(t);
         let mine = bit(i);
@@ -91,7 +102,7 @@ impl Entry {
         if c == 0 {
             return Acted {
                 enabled: memory == v,
-                entry: self,
+                entry: self.masked(t),
             };
         }
         let entry = Entry {
@@ -107,22 +118,23 @@ impl Entry {
 
     // Possible if i's cache holds nothing for x.
     pub fn l_flush(self, t: Topology, i: Machine, x: Location) -> Acted
-        ensures { λ r. ⌜ Acts t (event (LFlush (i .0) (x .0))) (x .0) self r ⌝ }
+        ensures { λ r. ⌜ r ≡ actedOf t (event (LFlush (i .0) (x .0))) (x .0) self ⌝ }
     {
         let c = self.code(t);
         let mine = bit(i);
+        let entry = self.masked(t);
         Acted {
             enabled: c & mine == 0,
-            entry: self,
+            entry,
         }
     }
 
     // Possible if no cache holds x.
     pub fn r_flush(self, t: Topology, i: Machine, x: Location) -> Acted
-        ensures { λ r. ⌜ Acts t (event (RFlush (i .0) (x .0))) (x .0) self r ⌝ }
+        ensures { λ r. ⌜ r ≡ actedOf t (event (RFlush (i .0) (x .0))) (x .0) self ⌝ }
     {
         let c = self.code(t);
-        let same = self;
+        let same = self.masked(t);
         Acted {
             enabled: c == 0,
             entry: same,
@@ -131,8 +143,7 @@ impl Entry {
 
     // What a crash of machine i leaves of the entry of location x.
     pub fn crashed(self, t: Topology, i: Machine, x: Location) -> Entry
-        ensures { λ r. ⌜ localOf (t .machines) r
-            ≡ effect (topologyOf t) (x .0) (event (Crash (i .0))) (localOf (t .machines) self) ⌝ }
+        ensures { λ r. ⌜ r ≡ entryAfter t (event (Crash (i .0))) (x .0) self ⌝ }
     {
         let c = self.code(t);
         let sharers = c & !bit(i);
@@ -153,7 +164,7 @@ impl Entry {
 
     // i, which is not the owner, loses x, and the owner's cache gets the value that i's held.
     pub fn propagate(self, t: Topology, i: Machine, x: Location) -> Acted
-        ensures { λ r. ⌜ Acts t (silent (Propagate (i .0) (x .0))) (x .0) self r ⌝ }
+        ensures { λ r. ⌜ r ≡ actedOf t (silent (Propagate (i .0) (x .0))) (x .0) self ⌝ }
     {
         let c = self.code(t);
         let k = t.owner(x);
@@ -171,7 +182,7 @@ impl Entry {
 
     // Memory gets the value that the owner's cache holds, and every cache loses x.
     pub fn write_back(self, t: Topology, x: Location) -> Acted
-        ensures { λ r. ⌜ Acts t (silent (WriteBack (x .0))) (x .0) self r ⌝ }
+        ensures { λ r. ⌜ r ≡ actedOf t (silent (WriteBack (x .0))) (x .0) self ⌝ }
     {
         let c = self.code(t);
         let owners = bit(t.owner(x));

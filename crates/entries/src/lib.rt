@@ -1,6 +1,6 @@
 // One location of a system, as a state keeps it, with a method for each action at it: whether the entry
 // enables the action, and the entry after it. specs/Entries.antt says what an entry means and what the
-// methods owe.
+// answer to an action is.
 mod acting;
 
 // One location: bit i - 1 of `sharers` is set if machine i's cache holds a copy, all copies have the value

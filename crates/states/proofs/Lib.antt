@@ -1,2 +1,3 @@
+pub mod After
 pub mod Settled
 pub mod Crashes

@@ -1,11 +1,16 @@
--- What the program's states and answers mean, in the words of `Cxl0`.
-use mathlib.Core.Bool.{Bool, cond, _&&_}
-use lib.ListN.{getD, set}
-use Rattle.model.specs.Cxl0.{Location, State}
-use Rattle.model.specs.OneLocation.{expand}
-use Rattle.model.specs.Meaning.{Outcome}
+-- What the program's states and answers mean, and what an action makes of them, in the words of `Cxl0`.
+use Prim.Native.Nat.{suc}
+use mathlib.Core.Bool.{Bool, false, cond, _&&_}
+use mathlib.Core.List.{List, [], _∷_}
+use lib.ListN.{getD, set, replicate}
+use Rattle.model.specs.Cxl0
+use Rattle.model.specs.Cxl0.{Location, State, Action, possible}
+use Rattle.model.specs.OneLocation.{expand, concerns}
+use Rattle.model.specs.Operations.{isOperation, eventOf}
+use Rattle.model.specs.Meaning.{topologyOf, withinLimits, Outcome}
+use Rattle.model.specs.declared.Event as event
 use Rattle.model.specs.declared.Topology as topology
-use Rattle.entries.specs.Entries.{localOf, emptyEntry}
+use Rattle.entries.specs.Entries.{localOf, emptyEntry, entryAfter}
 use Rattle.entries.specs.declared.Entry as entry
 use Rattle.entries.specs.declared.Acted as acted
 use Rattle.states.specs.declared.State as state
@@ -21,11 +26,37 @@ stateOf t s = expand (λ x. localOf (t .machines) (entryAt s x))
 unfoldable pub outcomeOf : topology.Topology → stepped.Stepped → Outcome
 outcomeOf t r = record { possible = r .possible; state = stateOf t (r .state) }
 
+-- All entries empty.
+unfoldable pub startState : state.State
+startState = record { entries = replicate 32 emptyEntry }
+
+-- The entry of location x after an action, which changes those that it concerns and no others.
+abbrev pub nextEntry : topology.Topology → Action → Location → entry.Entry → entry.Entry
+nextEntry t a x e = cond (concerns x a) (entryAfter t a x e) e
+
+-- The entries from location x on after an action.
+unfoldable pub entriesAfter : topology.Topology → Action → Location → List entry.Entry → List entry.Entry
+entriesAfter t a x [] = []
+entriesAfter t a x (e ∷ es) = nextEntry t a x e ∷ entriesAfter t a (suc x) es
+
+unfoldable pub stateAfter : topology.Topology → Action → state.State → state.State
+stateAfter t a s = record { entries = entriesAfter t a 0 (s .entries) }
+
+-- The answer to an action: whether it is possible, and the state after it or, if it is not, the same state.
+abbrev pub answer : Bool → state.State → state.State → stepped.Stepped
+answer p after s = record { possible = p; state = cond p after s }
+
+unfoldable pub steppedOf : topology.Topology → Action → state.State → stepped.Stepped
+steppedOf t a s = answer (withinLimits t && possible (topologyOf t) a (stateOf t s)) (stateAfter t a s) s
+
+-- The answer to an event by its operation number. A number that is no operation's is not possible.
+unfoldable pub appliedOf : topology.Topology → event.Event → state.State → stepped.Stepped
+appliedOf t e s =
+    cond (isOperation (e .operation))
+    (steppedOf t (Cxl0.event (eventOf (e .operation) (e .machine .0) (e .location .0) (e .value))) s)
+    (record { possible = false; state = s })
+
 -- The answer to an action at location x: it is possible if it is admitted and enabled, and then the entry of
 -- x is replaced.
 abbrev pub settle : Bool → acted.Acted → Location → state.State → stepped.Stepped
-settle b m x s =
-    record {
-      possible = b && m .enabled;
-      state = cond (b && m .enabled) (record { entries = set (s .entries) x (m .entry) }) s;
-    }
+settle b m x s = answer (b && m .enabled) (record { entries = set (s .entries) x (m .entry) }) s

@@ -1,6 +1,6 @@
 // The state of a whole system, with a method for each event and each silent step: it says whether that action
 // is possible, and hands back the state after it or, if it is not, the same state. The contracts are
-// equations with the definitions of `model`; specs/States.antt says what a state means.
+// equations on the struct, and with the definitions of `model` on what it means; both are in specs/States.antt.
 mod stepping;
 
 use entries::Entry;

@@ -1,13 +1,11 @@
 // The steps of a whole system, one method for each event and each silent step.
 ghost use mathlib.Core.Path.{_≡_};
 ghost use mathlib.Core.Bool.{false};
-ghost use Prim.Native.Nat.{ℕ};
 ghost use Rattle.model.specs.Cxl0.{start, event, LStore, RStore, MStore, Load, LFlush, RFlush, Crash};
 ghost use Rattle.model.specs.Cxl0.{silent, Propagate, WriteBack};
-ghost use Rattle.model.specs.OneLocation.{effect};
 ghost use Rattle.model.specs.Meaning.{topologyOf, attempt, attemptEvent};
-ghost use Rattle.entries.specs.Entries.{localOf};
 ghost use Rattle.states.specs.States.{entryAt, stateOf, outcomeOf, settle};
+ghost use Rattle.states.specs.States.{startState, stateAfter, steppedOf, appliedOf};
 use super::State;
 use super::Stepped;
 use entries::Acted;
@@ -23,6 +21,7 @@ impl State {
     // At the start no cache holds anything and memories hold 0, whatever the topology.
     pub fn start(t: Topology) -> State
         ensures { λ r. ⌜ stateOf t r ≡ start (topologyOf t) ⌝ }
+        ensures whole { λ r. ⌜ r ≡ startState ⌝ }
     {
         State {
             entries: [EMPTY; LOCATIONS],
@@ -63,6 +62,7 @@ impl State {
     pub fn l_store(self, t: Topology, i: Machine, x: Location, v: u32) -> Stepped
         ensures { λ r. ⌜ outcomeOf t r ≡ attempt t (event (LStore (i .0) (x .0) v)) (stateOf t self) ⌝ }
         ensures kept { λ r. ⌜ (r .possible ≡ false → r .state ≡ self) ⌝ }
+        ensures whole { λ r. ⌜ r ≡ steppedOf t (event (LStore (i .0) (x .0) v)) self ⌝ }
     {
         let e = self.entry(x);
         let made = e.l_store(t, i, x, v);
@@ -72,6 +72,7 @@ impl State {
     pub fn r_store(self, t: Topology, i: Machine, x: Location, v: u32) -> Stepped
         ensures { λ r. ⌜ outcomeOf t r ≡ attempt t (event (RStore (i .0) (x .0) v)) (stateOf t self) ⌝ }
         ensures kept { λ r. ⌜ (r .possible ≡ false → r .state ≡ self) ⌝ }
+        ensures whole { λ r. ⌜ r ≡ steppedOf t (event (RStore (i .0) (x .0) v)) self ⌝ }
     {
         let e = self.entry(x);
         let made = e.r_store(t, i, x, v);
@@ -81,6 +82,7 @@ impl State {
     pub fn m_store(self, t: Topology, i: Machine, x: Location, v: u32) -> Stepped
         ensures { λ r. ⌜ outcomeOf t r ≡ attempt t (event (MStore (i .0) (x .0) v)) (stateOf t self) ⌝ }
         ensures kept { λ r. ⌜ (r .possible ≡ false → r .state ≡ self) ⌝ }
+        ensures whole { λ r. ⌜ r ≡ steppedOf t (event (MStore (i .0) (x .0) v)) self ⌝ }
     {
         let e = self.entry(x);
         let made = e.m_store(t, i, x, v);
@@ -90,6 +92,7 @@ impl State {
     pub fn load(self, t: Topology, i: Machine, x: Location, v: u32) -> Stepped
         ensures { λ r. ⌜ outcomeOf t r ≡ attempt t (event (Load (i .0) (x .0) v)) (stateOf t self) ⌝ }
         ensures kept { λ r. ⌜ (r .possible ≡ false → r .state ≡ self) ⌝ }
+        ensures whole { λ r. ⌜ r ≡ steppedOf t (event (Load (i .0) (x .0) v)) self ⌝ }
     {
         let e = self.entry(x);
         let made = e.load(t, i, x, v);
@@ -99,6 +102,7 @@ impl State {
     pub fn l_flush(self, t: Topology, i: Machine, x: Location) -> Stepped
         ensures { λ r. ⌜ outcomeOf t r ≡ attempt t (event (LFlush (i .0) (x .0))) (stateOf t self) ⌝ }
         ensures kept { λ r. ⌜ (r .possible ≡ false → r .state ≡ self) ⌝ }
+        ensures whole { λ r. ⌜ r ≡ steppedOf t (event (LFlush (i .0) (x .0))) self ⌝ }
     {
         let e = self.entry(x);
         let made = e.l_flush(t, i, x);
@@ -108,6 +112,7 @@ impl State {
     pub fn r_flush(self, t: Topology, i: Machine, x: Location) -> Stepped
         ensures { λ r. ⌜ outcomeOf t r ≡ attempt t (event (RFlush (i .0) (x .0))) (stateOf t self) ⌝ }
         ensures kept { λ r. ⌜ (r .possible ≡ false → r .state ≡ self) ⌝ }
+        ensures whole { λ r. ⌜ r ≡ steppedOf t (event (RFlush (i .0) (x .0))) self ⌝ }
     {
         let e = self.entry(x);
         let made = e.r_flush(t, i, x);
@@ -116,8 +121,7 @@ impl State {
 
     // Every entry as a crash of machine i leaves it.
     fn crashed(mut self, t: Topology, i: Machine) -> State
-        ensures { λ r. ⌜ ((x : ℕ) → localOf (t .machines) (entryAt r x)
-            ≡ effect (topologyOf t) x (event (Crash (i .0))) (localOf (t .machines) (entryAt self x))) ⌝ }
+        ensures { λ r. ⌜ r ≡ stateAfter t (event (Crash (i .0))) self ⌝ }
     {
         let mut at: usize = 0;
         while at < LOCATIONS {
@@ -134,6 +138,7 @@ impl State {
     pub fn crash(self, t: Topology, i: Machine) -> Stepped
         ensures { λ r. ⌜ outcomeOf t r ≡ attempt t (event (Crash (i .0))) (stateOf t self) ⌝ }
         ensures kept { λ r. ⌜ (r .possible ≡ false → r .state ≡ self) ⌝ }
+        ensures whole { λ r. ⌜ r ≡ steppedOf t (event (Crash (i .0))) self ⌝ }
     {
         if t.within_limits() & t.is_machine(i) {
             Stepped {
@@ -151,6 +156,7 @@ impl State {
     pub fn propagate(self, t: Topology, i: Machine, x: Location) -> Stepped
         ensures { λ r. ⌜ outcomeOf t r ≡ attempt t (silent (Propagate (i .0) (x .0))) (stateOf t self) ⌝ }
         ensures kept { λ r. ⌜ (r .possible ≡ false → r .state ≡ self) ⌝ }
+        ensures whole { λ r. ⌜ r ≡ steppedOf t (silent (Propagate (i .0) (x .0))) self ⌝ }
     {
         let e = self.entry(x);
         let made = e.propagate(t, i, x);
@@ -160,6 +166,7 @@ impl State {
     pub fn write_back(self, t: Topology, x: Location) -> Stepped
         ensures { λ r. ⌜ outcomeOf t r ≡ attempt t (silent (WriteBack (x .0))) (stateOf t self) ⌝ }
         ensures kept { λ r. ⌜ (r .possible ≡ false → r .state ≡ self) ⌝ }
+        ensures whole { λ r. ⌜ r ≡ steppedOf t (silent (WriteBack (x .0))) self ⌝ }
     {
         let e = self.entry(x);
         let made = e.write_back(t, x);
@@ -170,6 +177,7 @@ impl State {
     pub fn apply(self, t: Topology, e: Event) -> Stepped
         ensures { λ r. ⌜ outcomeOf t r ≡ attemptEvent t e (stateOf t self) ⌝ }
         ensures kept { λ r. ⌜ (r .possible ≡ false → r .state ≡ self) ⌝ }
+        ensures whole { λ r. ⌜ r ≡ appliedOf t e self ⌝ }
     {
         let o = e.operation;
         let i = e.machine;

@@ -53,7 +53,7 @@ returns c = λ r e h.
     let opened = first .«open» .ensures r e h in
     let events = ap (λ (k : Head). k .events) h in
     let (ps, read, count) = steps-read _ _ (told b) in
-    let stands = stands-first _ ps _ opened read events (c .before .start .ensures) refl refl refl in
+    let stands = stands-first _ ps _ opened read events (c .before .start .ensures .0) refl refl refl in
     c .walk .ensures _ (rw count at stands) ∙ sym (with-steps r _ _ _ (opened .system) events ps read)
 
 returns-2 : tie.Need-returns-2

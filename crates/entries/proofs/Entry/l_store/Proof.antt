@@ -1,22 +1,15 @@
 -- `l_store` meets its contract.
 use mathlib.Core.Path.{refl}
-use Rattle.model.specs.Cxl0.{event, LStore, named}
-use Rattle.model.specs.OneLocation.{concerns, eventAt, enabledAt, effect}
+use Rattle.model.specs.OneLocation.{enabledAt, effect}
 use Rattle.model.proofs.Tests.{nothing}
-use Rattle.entries.specs.Entries.{localOf}
-use Rattle.entries.proofs.Effects.{by-machine, acts-bytes}
+use Rattle.entries.specs.Entries.{localOf, entryOf, entryAfter, actedOf}
+use Rattle.entries.proofs.Effects.{same-entry, same-acted}
 use Rattle.entries.proofs.Entry.l_store.Statement.{statement}
 use Rattle.entries.proofs.Entry.l_store.Tie as tie
 
 returns : tie.Need-returns
-unfolding named concerns eventAt enabledAt effect localOf
-returns c =
-    let h = c .before in
-    let t = h .args .t in
-    let i = h .args .i .0 in
-    let x = h .args .x .0 in
-    let a = event (LStore i x (h .args .v)) in
-    acts-bytes t a x (by-machine t i x a (λ y. refl) refl) (h .args .self) _ refl (c .bit .ensures) refl refl
+unfolding enabledAt effect localOf entryOf entryAfter actedOf
+returns c = same-acted refl (same-entry (c .bit .ensures) refl)
 
 pub l-store-spec : {M : Type 1} → statement M
 l-store-spec = tie.close (tie.spec nothing returns)

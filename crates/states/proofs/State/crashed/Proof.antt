@@ -1,21 +1,20 @@
 -- `State::crashed` meets its contract. The loop's invariant: the entries before `at` are as the crash leaves
--- them, and the others stand for what they stood for.
+-- them, and the others are as they were.
 use Prim.Native.Nat.{ℕ, _-_}
 use native.Mathlib.Omega.{arith}
-use mathlib.Core.Path.{_≡_, _∙_}
+use mathlib.Core.Path.{_≡_, sym, _∙_}
 use borrow.Author.Tests.{le-ltb}
 use lib.ListN.{length, length-set}
 use Rattle.states.specs.States.{entryAt}
 use Rattle.model.proofs.Tests.{nothing}
 use Rattle.model.proofs.Limits.{mapped}
-use Rattle.states.proofs.Settled.{forms}
 use Rattle.states.proofs.Crashes.{partly, turn, done}
 use Rattle.states.proofs.State.crashed.Statement.{statement}
 use Rattle.states.proofs.State.crashed.Tie as tie
 
 abbrev Inv-loop : tie.InvT-loop
 Inv-loop t i self₀ at₀ self at =
-    (length (self .entries) ≡ 32) × ((y : ℕ) → forms t self y ≡ partly t (i .0) self₀ at y)
+    (length (self .entries) ≡ 32) × ((y : ℕ) → entryAt self y ≡ partly t (i .0) self₀ at y)
 
 abbrev μ-loop : tie.MeasureT-loop
 μ-loop t i self₀ at₀ self at = 32 - at
@@ -59,7 +58,8 @@ returns : tie.Need-returns Inv-loop μ-loop
 returns c =
     let h = c .before .before in
     let l = c .before .loop in
-    done (h .args .t) (h .args .i .0) (h .args .t1) (l .self) (l .at) (l .inv .1) (omega (arith, room h))
+    let all = done (h .args .t) (h .args .i .0) (h .args .t1) (l .self) (l .at) (l .inv .1) in
+    all (l .inv .0 ∙ sym (room h)) (omega (arith, room h))
 
 pub crashed-spec : {M : Type 1} → statement M
 crashed-spec =

@@ -1,13 +1,12 @@
 -- `r_flush` meets its contract.
 use mathlib.Core.Path.{_≡_, refl}
 use lib.ListN.{length}
-use Rattle.model.specs.Cxl0.{event, RFlush, named}
+use Rattle.model.specs.Cxl0.{named}
 use Rattle.model.specs.OneLocation.{concerns, eventAt}
 use Rattle.model.proofs.Tests.{nothing}
 use Rattle.model.proofs.Limits.{mapped}
-use Rattle.entries.specs.Entries.{admits}
-use Rattle.entries.proofs.Effects.{by-machine}
-use Rattle.states.proofs.Settled.{settled-acts}
+use Rattle.entries.proofs.Effects.{admits}
+use Rattle.states.proofs.Settled.{settled}
 use Rattle.states.proofs.State.r_flush.Statement.{statement}
 use Rattle.states.proofs.State.r_flush.Tie as tie
 
@@ -17,17 +16,9 @@ room c = search mapped
 returns : tie.Need-returns
 unfolding admits named concerns eventAt
 returns c =
-    let h = c .before .before .before .before in
-    let t = h .args .t in
-    let i = h .args .i .0 in
-    let x = h .args .x .0 in
-    let a = event (RFlush i x) in
-    settled-acts t (h .args .self) a x (by-machine t i x a (λ y. refl) refl) (room h)
-    (c .before .before .before .entry .ensures)
-    (c .before .names .ensures)
-    (c .before .before .r-flush .result)
-    (c .before .before .r-flush .ensures)
-    (c .settled .ensures)
+    let found = c .before .before .before in
+    settled _ _ _ _ (λ y. refl) (room (found .before)) (found .entry .ensures)
+    (c .before .before .r-flush .ensures) (c .before .names .ensures) (c .settled .ensures)
 
 pub r-flush-spec : {M : Type 1} → statement M
 r-flush-spec = tie.close (tie.spec nothing nothing nothing nothing returns)

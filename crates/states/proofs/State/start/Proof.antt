@@ -3,13 +3,14 @@ use Prim.Native.Nat.{ℕ, zero, suc, _^_}
 use native.Mathlib.Nat.{zero-mod}
 use mathlib.Core.Path.{_≡_, refl, sym, ap, _∙_, fun-ext}
 use lib.ListN.{getD, replicate}
-use Rattle.model.specs.Cxl0.{Location, initial}
+use Rattle.model.specs.Cxl0.{Location, initial, start}
 use Rattle.model.specs.OneLocation.{expand, startAt}
 use Rattle.model.specs.Meaning.{topologyOf}
 use Rattle.entries.specs.Entries.{localOf, emptyEntry}
-use Rattle.states.specs.States.{entryAt, stateOf}
+use Rattle.states.specs.States.{entryAt, stateOf, startState}
 use Rattle.entries.specs.declared.Entry as entry
 use Rattle.model.specs.declared.Topology as topology
+use Rattle.states.specs.declared.State as state
 use Rattle.model.proofs.Expand.{start-expand}
 use Rattle.states.proofs.State.start.Statement.{statement}
 use Rattle.states.proofs.State.start.Tie as tie
@@ -24,12 +25,20 @@ none : (t : topology.Topology) (x : Location) → localOf (t .machines) emptyEnt
 unfolding localOf startAt initial
 none t x = λ i. record { code = zero-mod (2 ^ t .machines) i; copy = 0; memory = 0 }
 
-returns : tie.Need-returns
-unfolding stateOf entryAt
-returns c =
-    let t = c .args .t in
+-- So 32 of them stand for the state at the start.
+begun : (t : topology.Topology) → stateOf t startState ≡ start (topologyOf t)
+unfolding stateOf entryAt startState
+begun t =
     ap expand (fun-ext (λ x. ap (localOf (t .machines)) (same 32 x emptyEntry) ∙ none t x))
     ∙ sym (start-expand (topologyOf t))
+
+right : (t : topology.Topology) {s : state.State} → s ≡ startState
+    → (stateOf t s ≡ start (topologyOf t)) × (s ≡ startState)
+right t e = (ap (stateOf t) e ∙ begun t, e)
+
+returns : tie.Need-returns
+unfolding startState
+returns c = right (c .args .t) refl
 
 pub start-spec : {M : Type 1} → statement M
 start-spec = tie.close (tie.spec returns)
