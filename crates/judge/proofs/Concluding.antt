@@ -13,12 +13,11 @@ use Rattle.model.specs.Schedule.{Step, weave, inOrder}
 use Rattle.model.specs.Meaning.{topologyOf}
 use Rattle.model.specs.Words.{stepOfWord}
 use Rattle.model.specs.declared.Topology as topology
-use Rattle.model.proofs.Tests.{and-i, T→true}
+use Rattle.model.proofs.Tests.{and-i}
 use Rattle.model.proofs.Limits.{within, listed-below}
 use Rattle.model.proofs.Split.{split}
 use Rattle.model.proofs.Prefixes.{has-run-fewer}
 use Rattle.verdict_file.specs.Files.{stepsMost}
-use Rattle.verdict_file.specs.Writing.{stepsFit, writable}
 use Rattle.verdict_file.specs.Schedules.{everyStepFits, scheduleFits}
 use Rattle.walking.specs.Scratch.{STEPS, SORTED}
 use Rattle.walking.specs.Scratch.{wordsAt, stepsAt}
@@ -32,7 +31,7 @@ use Rattle.judge.specs.Gathering.{Gathered}
 use Rattle.judge.specs.Parts.{Arranged}
 use Rattle.judge.specs.Visiting.{Loaded, Visits}
 use Rattle.judge.specs.declared.visiting.Progress.{Progress}
-use Rattle.judge.proofs.Fitting.{run-fits, words-fit}
+use Rattle.judge.proofs.Fitting.{run-fits}
 use Rattle.judge.proofs.NamedEvents.{named-take}
 
 -- If the first m events have a run and one more have none, that one is the first impossible.
@@ -61,10 +60,6 @@ module _ {t : topology.Topology} {n : ℕ} {w : List ℕ} (loaded : Loaded t n w
 
   wellFormed : WellFormed sys
   wellFormed = within t (loaded .limits) .well-formed
-
-  few-machines : sys .machines ≤ 6
-  unfolding topologyOf
-  few-machines = within t (loaded .limits) .machines-few
 
   -- Every location has a run of the first m events, so the system has one.
   runs : HasRun sys (take m es)
@@ -125,18 +120,13 @@ module _ {t : topology.Topology} {n : ℕ} {w : List ℕ} (loaded : Loaded t n w
 
       -- In order, its steps are a schedule of the events.
       pub arranged : Arranged sys es (p .steps) out
-      unfolding scheduleFits writable
+      unfolding scheduleFits
       arranged =
           let most = v .visited .few in
           let words = wordsAt SORTED (p .steps) out in
-          let short = leb (length words) stepsMost in
           let few = leb (length steps) stepsMost in
           let order = inOrder 0 (length es) steps in
           record {
-            few = most;
-            words = T→true {b = writable words}
-                (and-i short (stepsFit words) (le→leb (length words) stepsMost (omega (arith, words-counted)))
-                (words-fit sys few-machines words fitting));
             fits = and-i (few && order) (everyStepFits sys steps)
                 (and-i few order
                 (le→leb (length steps) stepsMost (omega (arith, words-counted, length-map words stepOfWord)))

@@ -1,21 +1,18 @@
--- The steps of a run fit the system: each names a listed location and a machine that is not its owner. The
--- words of steps that fit are words that the verdict file's writer takes.
-use Prim.Native.Nat.{ℕ, zero, suc, _/_, _≤_, _^_}
+-- The steps of a run fit the system: each names a listed location and a machine that is not its owner.
+use Prim.Native.Nat.{ℕ, zero, suc, _≤_}
 use native.Mathlib.Omega.{arith}
 use mathlib.Core.Path.{_≡_, subst}
 use mathlib.Core.Bool.{not, _&&_}
 use mathlib.Core.List.{List, [], _∷_, map, cons≢nil, nil≢cons, head-eq-of-cons-eq, tail-eq-of-cons-eq}
-use lib.Dec.{T, leb, ltb, eqb, leb→le, le→leb, lt→ltb}
+use lib.Dec.{T, leb, eqb, le→leb}
 use Rattle.model.specs.Cxl0.{Topology, isMachine, isLocation, owner, WellFormed, State, start}
 use Rattle.model.specs.Cxl0.{Event, Silent, WriteBack, Action, event, silent}
 use Rattle.model.specs.Cxl0.{named, enabled, holds, possible, next, runs, Run, silents}
 use Rattle.model.specs.Schedule.{Step, silentOf, weave}
-use Rattle.model.specs.Words.{stepOfWord}
 use Rattle.model.proofs.Tests.{and-i, and-l, and-r, ne→test}
 use Rattle.model.proofs.Expand.{machine-bounds}
 use Rattle.model.proofs.Weaving.{silents-weave}
 use Rattle.verdict_file.specs.Schedules.{stepFits, everyStepFits}
-use Rattle.verdict_file.specs.Writing.{stepsFit}
 
 module _ (sys : Topology) where
   -- What it takes for a step to fit.
@@ -27,14 +24,6 @@ module _ (sys : Topology) where
       let few = leb (p .machine) (sys .machines) in
       let other = not (eqb (p .machine) (owner sys (p .location))) in
       and-i (listed && few) other (and-i listed few l (le→leb (p .machine) (sys .machines) m)) o
-
-  fits-machine : (p : Step) → T (stepFits sys p) → p .machine ≤ sys .machines
-  unfolding stepFits
-  fits-machine p t =
-      let listed = isLocation sys (p .location) in
-      let few = leb (p .machine) (sys .machines) in
-      let both = and-l (listed && few) (not (eqb (p .machine) (owner sys (p .location)))) t in
-      leb→le (p .machine) (sys .machines) (and-r listed few both)
 
   -- A silent step that is possible fits: the owner does not propagate, and is not machine 0, a write-back's.
   step-fits : WellFormed sys → (n x i : ℕ) (s : State)
@@ -79,17 +68,3 @@ module _ (sys : Topology) where
   pub run-fits : WellFormed sys → (es : List Event) (ps : List Step) → Run sys (weave es ps)
       → T (everyStepFits sys ps)
   run-fits w es ps r = silents-fit w (weave es ps) (start sys) r ps (silents-weave es ps)
-
-  -- The words of steps that fit have at most three bytes.
-  pub words-fit : sys .machines ≤ 6 → (ws : List ℕ) → T (everyStepFits sys (map stepOfWord ws))
-      → T (stepsFit ws)
-  unfolding everyStepFits stepsFit stepOfWord
-  words-fit few [] t = tt
-  words-fit few (v ∷ ws) t =
-      let p = stepOfWord v in
-      let rest = map stepOfWord ws in
-      let machine : v / 65536 ≤ sys .machines =
-      fits-machine p (and-l (stepFits sys p) (everyStepFits sys rest) t) in
-      and-i (ltb v (2 ^ 24)) (stepsFit ws)
-      (lt→ltb v (2 ^ 24) (omega arith))
-      (words-fit few ws (and-r (stepFits sys p) (everyStepFits sys rest) t))

@@ -8,19 +8,18 @@ use verdict_file::write_allowed;
 use verdict_file::write_impossible;
 use walking::scratch::SORTED;
 ghost use mathlib.Core.Path.{_≡_};
-ghost use mathlib.Core.Bool.{true, _&&_};
+ghost use mathlib.Core.Bool.{true};
 ghost use lib.ListN.{length};
 ghost use Rattle.model.specs.Meaning.{topologyOf};
 ghost use Rattle.verdict_file.specs.Files.{impossible};
-ghost use Rattle.verdict_file.specs.Writing.{allowedBy, writable, room};
+ghost use Rattle.verdict_file.specs.Writing.{allowedBy, room};
 ghost use Rattle.events.specs.Linking.{logged};
 ghost use Rattle.judge.specs.Settling.{Issued, Settled};
 ghost use Rattle.judge.specs.Visiting.{Loaded};
 
 // Writes the file that says impossible and tells of it.
 fn issue_impossible(out: &mut [u8], offset: usize, event: u8) -> Judged
-    ensures { λ r. ⌜ Issued (room (now (out .entry)) offset) (impossible event)
-        (now (out .entry)) offset (now (out .exit)) r ⌝ }
+    ensures { λ r. ⌜ Issued (impossible event) (now (out .entry)) offset (now (out .exit)) r ⌝ }
 {
     match write_impossible(out, offset, event) {
         Written::Length(n) => Judged::Impossible(event, n),
@@ -30,8 +29,8 @@ fn issue_impossible(out: &mut [u8], offset: usize, event: u8) -> Judged
 
 // Writes the file that says allowed, with these steps, and tells of it.
 fn issue_allowed(out: &mut [u8], offset: usize, steps: &[u64]) -> Judged
-    ensures { λ r. ⌜ Issued (room (now (out .entry)) offset && writable (now (steps .entry)))
-        (allowedBy (now (steps .entry))) (now (out .entry)) offset (now (out .exit)) r ⌝ }
+    ensures { λ r. ⌜ Issued (allowedBy (now (steps .entry)))
+        (now (out .entry)) offset (now (out .exit)) r ⌝ }
 {
     match write_allowed(out, offset, steps) {
         Written::Length(n) => Judged::Allowed(steps.len(), n),

@@ -1,6 +1,7 @@
 -- The schedule reader accepts exactly the files that say allowed and fit the log, so reading what the writer
 -- wrote gives the same steps back.
 use Prim.Native.Nat.{ℕ, _≤_}
+use native.Mathlib.Omega.{arith}
 use mathlib.Core.Path.{_≡_, refl, sym, ap, _∙_}
 use mathlib.Core.Bool.{Bool, true}
 use mathlib.Core.List.{List, [], _∷_, _++_, append-assoc}
@@ -14,10 +15,12 @@ use Rattle.model.specs.Schedule.{Step}
 use Rattle.model.proofs.Tests.{T→true, true→T}
 use Rattle.log.specs.Bytes.{pair, field}
 use Rattle.verdict_file.specs.Files.{allowed, header, stepField, stepFields, end, fileOf}
-use Rattle.verdict_file.specs.Writing.{output}
+use Rattle.verdict_file.specs.Answers.{gives}
+use Rattle.verdict_file.specs.Writing.{answer, output}
 use Rattle.verdict_file.specs.Schedules.{starts, readSteps, saysAllowed, readAllowed}
 use Rattle.verdict_file.specs.Schedules.{scheduleFits, kept, readSchedule}
 use Rattle.verdict_file.proofs.Put.{put-there}
+use Rattle.verdict_file.proofs.Writing.{has-room, given}
 use Rattle.verdict_file.proofs.Fields.{passed, tag-and-length, header-bytes, says-header}
 
 -- Bytes that give steps are the steps' fields and the end.
@@ -82,10 +85,11 @@ module _ (sys : Topology) (n : ℕ) (ps : List Step) where
       passed (saysAllowed s) (readSteps (drop 5 s)) (kept-some (scheduleFits sys n) (readAllowed s) e .0) .1
 
   -- What the writer left at the offset, read as a schedule, gives the steps that it was handed.
-  pub written-reads-back : (out : List ℕ) (offset : ℕ) → offset ≤ length out → T (scheduleFits sys n ps)
-      → readSchedule sys n
-      (take (length (fileOf (allowed ps))) (drop offset (output true (allowed ps) out offset)))
-      ≡ some ps
+  pub written-reads-back : (out : List ℕ) (offset k : ℕ) → answer out offset (allowed ps) ≡ gives k
+      → T (scheduleFits sys n ps)
+      → readSchedule sys n (take k (drop offset (output out offset (allowed ps)))) ≡ some ps
   unfolding output
-  written-reads-back out offset h fits =
-      rw (put-there out offset (fileOf (allowed ps)) h) (reads-back fits)
+  written-reads-back out offset k e fits =
+      let (enough, says, len) = given out offset (allowed ps) e in
+      let inside : offset ≤ length out = omega (arith, has-room out offset enough) in
+      rw (e, len, put-there out offset (fileOf (allowed ps)) inside) (reads-back fits)

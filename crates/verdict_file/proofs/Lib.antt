@@ -3,6 +3,7 @@ pub mod Files
 pub mod Put
 pub mod Words
 pub mod Writing
+pub mod Writable
 pub mod Fields
 pub mod Cursor
 pub mod Homes

@@ -1,15 +1,20 @@
--- The verdict file of case 4 with two machines, whose one schedule document 01 gives, and one with event 4.
-use Prim.Native.Nat.{ℕ}
+-- The verdict file of case 4 with two machines, whose one schedule document 01 gives, one with event 4, and the edges
+-- of a verdict file's form.
+use Prim.Native.Nat.{ℕ, _^_}
 use mathlib.Core.Path.{_≡_, refl}
-use mathlib.Core.Bool.{true}
-use mathlib.Core.List.{List, [], _∷_}
+use mathlib.Core.Bool.{true, false}
+use mathlib.Core.List.{List, [], _∷_, map}
 use mathlib.Core.Option.{none, some}
+use lib.ListN.{replicate}
 use Rattle.model.specs.Cxl0.{Topology, isLocation, owner}
 use Rattle.model.specs.Schedule.{Step, inOrder}
+use Rattle.model.specs.Words.{stepOfWord}
 use Rattle.log.specs.Bytes.{pair, field}
-use Rattle.verdict_file.specs.Files.{allowed, impossible, header, stepField, stepFields, end, fileOf}
+use Rattle.verdict_file.specs.Files.{Verdict, allowed, impossible}
+use Rattle.verdict_file.specs.Files.{header, stepField, stepFields, end, fileOf}
 use Rattle.verdict_file.specs.Schedules.{starts, begins, readSteps, saysAllowed, readAllowed}
 use Rattle.verdict_file.specs.Schedules.{stepFits, everyStepFits, scheduleFits, readSchedule}
+use Rattle.verdict_file.specs.Writing.{allowedBy, threeBytes, allThreeBytes, writable}
 
 case4 : Topology
 case4 = record { machines = 2; persistent = λ i. true; homes = record { owner = 2 } ∷ [] }
@@ -38,3 +43,21 @@ unfit = refl
 written-impossible : fileOf (impossible 4) ≡ 0x10 ∷ 0x02 ∷ 0x00 ∷ 0x00 ∷ 0x04 ∷ 0x04 ∷ 0x00 ∷ 0x00 ∷ []
 unfolding fileOf header end field pair
 written-impossible = refl
+
+-- Steps after so many events, and the edges of the form: 256 steps, three bytes, counts that stay or rise to 128, and
+-- events 1 to 128.
+after : List ℕ → Verdict
+after ns = allowed (map (λ n. record { before = n; location = 0; machine = 0 }) ns)
+
+edges : map writable
+    (after (0 ∷ 0 ∷ 128 ∷ []) ∷ after (replicate 256 0) ∷ impossible 1 ∷ impossible 128 ∷ [])
+    ≡ true ∷ true ∷ true ∷ true ∷ []
+unfolding after writable threeBytes allThreeBytes inOrder
+edges = refl
+
+past-the-edges : map writable
+    (after (1 ∷ 0 ∷ []) ∷ after (129 ∷ []) ∷ after (replicate 257 0) ∷ allowedBy (2 ^ 24 ∷ [])
+    ∷ impossible 0 ∷ impossible 129 ∷ [])
+    ≡ false ∷ false ∷ false ∷ false ∷ false ∷ false ∷ []
+unfolding after writable threeBytes allThreeBytes inOrder stepOfWord
+past-the-edges = refl

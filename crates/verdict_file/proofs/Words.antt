@@ -1,18 +1,20 @@
 -- Steps packed in words, one after the other.
-use Prim.Native.Nat.{ℕ, zero, suc, _+_, _*_, _<_, _≤_, _^_}
+use Prim.Native.Nat.{ℕ, zero, suc, _+_, _*_, _<_, _≤_, _^_, _/_, _%_}
 use native.Mathlib.Omega.{arith}
 use native.Mathlib.Nat.{le-of-suc-le-suc, not-suc-le-zero}
 use mathlib.Core.Path.{_≡_, refl, sym, ap, _∙_}
-use mathlib.Core.Bool.{_&&_}
+use mathlib.Core.Bool.{Bool, true, false, _&&_}
 use mathlib.Core.List.{List, [], _∷_, _++_, map, append-assoc, append-nil}
-use lib.Dec.{T, leb, ltb, leb→le, ltb→lt}
+use lib.Dec.{T, leb, ltb, leb→le, ltb→lt, lt→ltb}
 use lib.ListN.{length, getD, take, drop, length-map, length-append}
 use lib.Seq.{take-suc, take-length, drop-cons, length-take-le}
-use Rattle.model.proofs.Tests.{and-l, and-r}
+use borrow.Author.Tests.{lt-ltb}
+use Rattle.model.proofs.Tests.{and-l, and-r, same-test}
+use Rattle.model.specs.Schedule.{Step, inOrder}
 use Rattle.model.specs.Words.{stepOfWord}
 use Rattle.log.specs.Bytes.{pair, field}
-use Rattle.verdict_file.specs.Files.{stepsMost, header, stepField, stepFields, end, fileOf}
-use Rattle.verdict_file.specs.Writing.{allowedBy, stepsFit, writable, put}
+use Rattle.verdict_file.specs.Files.{stepsMost, eventsMost, header, stepField, stepFields, end, fileOf}
+use Rattle.verdict_file.specs.Writing.{allowedBy, threeBytes, allThreeBytes, writable, comesNext, put}
 use Rattle.verdict_file.proofs.Files.{length-stepFields}
 use Rattle.verdict_file.proofs.Put.{put-more}
 
@@ -36,27 +38,65 @@ pub fields-more : (ws : List ℕ) (i : ℕ) → i < length ws
 unfolding stepFields
 fields-more ws i h = rw (take-suc ws i 0 h, append-fields (take i ws) (getD ws i 0 ∷ []), append-nil)
 
--- The words from i on fit if the word at i does and those after it.
-pub fit-from : (ws : List ℕ) (i : ℕ) → i < length ws
-    → stepsFit (drop i ws) ≡ (ltb (getD ws i 0) (2 ^ 24) && stepsFit (drop (suc i) ws))
-unfolding stepsFit
-fit-from ws i h = rw (drop-cons ws i 0 h)
+-- The steps of the words are of a verdict file, where the step before them has `least` events before it.
+abbrev pub follow : ℕ → List ℕ → Bool
+follow least ws = allThreeBytes (map stepOfWord ws) && inOrder least eventsMost (map stepOfWord ws)
 
-fit-at : (ws : List ℕ) (i : ℕ) → i < length ws → T (stepsFit ws) → getD ws i 0 < 2 ^ 24
-unfolding stepsFit
-fit-at [] i h t = absurd (not-suc-le-zero h)
-fit-at (w ∷ ws) zero h t = ltb→lt w (2 ^ 24) (and-l (ltb w (2 ^ 24)) (stepsFit ws) t)
-fit-at (w ∷ ws) (suc i) h t = fit-at ws i (le-of-suc-le-suc h) (and-r (ltb w (2 ^ 24)) (stepsFit ws) t)
+and-both : (a b c d : Bool) → ((a && b) && (c && d)) ≡ ((a && c) && (b && d))
+and-both true b true d = refl
+and-both true true false d = refl
+and-both true false false d = refl
+and-both false b c d = refl
 
-module _ (ws : List ℕ) (ok : T (writable ws)) where
-  pub few : length ws ≤ stepsMost
+-- The words from i on follow if the word at i comes next and those after it follow.
+pub follow-from : (ws : List ℕ) (i least : ℕ) → i < length ws
+    → let p = stepOfWord (getD ws i 0) in
+    follow least (drop i ws) ≡ (comesNext least p && follow (p .before) (drop (suc i) ws))
+unfolding allThreeBytes inOrder comesNext
+follow-from ws i least h =
+    let p = stepOfWord (getD ws i 0) in
+    let rest = map stepOfWord (drop (suc i) ws) in
+    rw (drop-cons ws i 0 h)
+    (and-both (threeBytes p) (allThreeBytes rest) (leb least (p .before) && leb (p .before) eventsMost)
+    (inOrder (p .before) eventsMost rest))
+
+-- A word is a step of three bytes if it is below 2 ^ 24: then its highest number, the machine, fits a byte.
+pub three-bytes : (w : ℕ) → threeBytes (stepOfWord w) ≡ ltb w (2 ^ 24)
+unfolding threeBytes stepOfWord
+three-bytes w =
+    rw (lt-ltb (w % 256) 256 (omega arith), lt-ltb (w / 256 % 256) 256 (omega arith))
+    (same-test (ltb (w / 65536) 256) (ltb w (2 ^ 24))
+    (λ t. lt→ltb w (2 ^ 24) (omega (arith, ltb→lt (w / 65536) 256 t)))
+    (λ t. lt→ltb (w / 65536) 256 (omega (arith, ltb→lt w (2 ^ 24) t))))
+
+bytes-at : (ws : List ℕ) (i : ℕ) → i < length ws → T (allThreeBytes (map stepOfWord ws)) → getD ws i 0 < 2 ^ 24
+unfolding allThreeBytes
+bytes-at [] i h t = absurd (not-suc-le-zero h)
+bytes-at (w ∷ ws) zero h t =
+    let first = and-l (threeBytes (stepOfWord w)) (allThreeBytes (map stepOfWord ws)) t in
+    ltb→lt w (2 ^ 24) (rw three-bytes at first)
+bytes-at (w ∷ ws) (suc i) h t =
+    bytes-at ws i (le-of-suc-le-suc h) (and-r (threeBytes (stepOfWord w)) (allThreeBytes (map stepOfWord ws)) t)
+
+module _ (ws : List ℕ) (ok : T (writable (allowedBy ws))) where
+  abbrev steps : List Step
+  steps = map stepOfWord ws
+
+  abbrev short : Bool
+  short = leb (length steps) stepsMost
+
+  fit : T (short && allThreeBytes steps)
   unfolding writable
-  few = leb→le (length ws) stepsMost (and-l (leb (length ws) stepsMost) (stepsFit ws) ok)
+  fit = and-l (short && allThreeBytes steps) (inOrder 0 eventsMost steps) ok
+
+  pub few : length ws ≤ stepsMost
+  few =
+      let h = leb→le (length steps) stepsMost (and-l short (allThreeBytes steps) fit) in
+      omega (arith, length-map ws stepOfWord)
 
   -- Each word is a step of three bytes.
   pub small : (i : ℕ) → i < length ws → getD ws i 0 < 2 ^ 24
-  unfolding writable
-  small i h = fit-at ws i h (and-r (leb (length ws) stepsMost) (stepsFit ws) ok)
+  small i h = bytes-at ws i h (and-r short (allThreeBytes steps) fit)
 
 -- A word's field is put behind the fields of the words before it, where five bytes are a header's.
 pub put-word : (l ws : List ℕ) (i : ℕ) → i < length ws → 5 + 6 * i ≤ length l

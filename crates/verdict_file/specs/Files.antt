@@ -16,6 +16,10 @@ stepsMost = 256
 abbrev pub fileMost : ℕ
 fileMost = 1544
 
+-- At most 128 events in a log.
+abbrev pub eventsMost : ℕ
+eventsMost = 128
+
 -- Tag 10: 1 if allowed or 0 if impossible, and the number of the first impossible event or 0.
 unfoldable pub header : ℕ → ℕ → List ℕ
 header verdict event = field 0x10 (verdict ∷ event ∷ [])

@@ -1,5 +1,6 @@
 // Filling the part of the output that a file is to stand in, from its first byte on. The writers first ask
 // whether the part is long enough and the words are steps of a file, as the `requires` here demand.
+use crate::EVENTS_MOST;
 use crate::FILE_MOST;
 use crate::STEPS_MOST;
 use crate::TAG_END;
@@ -11,36 +12,63 @@ ghost use lib.Dec.{T, leb};
 ghost use lib.ListN.{length};
 ghost use Rattle.model.specs.Words.{stepOfWord};
 ghost use Rattle.verdict_file.specs.Files.{impossible, fileMost, header, stepField, end, fileOf};
-ghost use Rattle.verdict_file.specs.Writing.{allowedBy, writable, put};
+ghost use Rattle.verdict_file.specs.Writing.{allowedBy, writable, comesNext, put};
 
 // The words below it are steps of three bytes.
 const WORD_END: u64 = 0x100_0000;
 
-// The longest file has room in `length` bytes from the offset on.
-pub fn has_room(length: usize, offset: usize) -> bool
-    ensures { λ r. ⌜ r ≡ leb (offset + fileMost) length ⌝ }
+// The longest file has room in `size` bytes from the offset on.
+pub fn has_room(size: usize, offset: usize) -> bool
+    ensures { λ r. ⌜ r ≡ leb (offset + fileMost) size ⌝ }
 {
-    if length < offset {
+    if size < offset {
         return false;
     }
-    FILE_MOST <= length - offset
+    FILE_MOST <= size - offset
 }
 
-// Whether there are few enough steps and each fits three bytes.
+// Whether the word is a step of three bytes with at least so many events before it, and no more than a log has.
+fn comes_next(word: u64, least: u64) -> bool
+    ensures { λ r. ⌜ r ≡ comesNext least (stepOfWord word) ⌝ }
+{
+    if WORD_END <= word {
+        return false;
+    }
+    let before = word % 256;
+    if before < least {
+        return false;
+    }
+    before <= EVENTS_MOST
+}
+
+// Whether the words are steps of a verdict file, in its order: `least` is the count of events before the last step.
 pub(crate) fn are_steps(steps: &[u64]) -> bool
-    ensures { λ r. ⌜ r ≡ writable (now (steps .entry)) ⌝ }
+    ensures { λ r. ⌜ r ≡ writable (allowedBy (now (steps .entry))) ⌝ }
 {
     if STEPS_MOST < steps.len() {
         return false;
     }
+    let mut least = 0;
     let mut i = 0;
     while i < steps.len() {
-        if WORD_END <= steps[i] {
+        let word = steps[i];
+        if !comes_next(word, least) {
             return false;
         }
+        least = word % 256;
         i += 1;
     }
     true
+}
+
+// Whether the number is that of an event of a log.
+pub(crate) fn is_event(event: u8) -> bool
+    ensures { λ r. ⌜ r ≡ writable (impossible event) ⌝ }
+{
+    if event < 1 {
+        return false;
+    }
+    (event as u64) <= EVENTS_MOST
 }
 
 fn put_header(part: &mut [u8], verdict: u8, event: u8) -> usize
@@ -81,7 +109,7 @@ fn put_end(part: &mut [u8], at: usize) -> usize
 
 // The file that says allowed, from the part's first byte on. Returns its length.
 pub(crate) fn fill_allowed(part: &mut [u8], steps: &[u64]) -> usize
-    requires { ⌜ (fileMost ≤ length (now part)) × T (writable (now steps)) ⌝ }
+    requires { ⌜ (fileMost ≤ length (now part)) × T (writable (allowedBy (now steps))) ⌝ }
     ensures { λ r. ⌜ r ≡ length (fileOf (allowedBy (now (steps .entry)))) ⌝ }
     ensures { λ r. ⌜ now (part .exit) ≡
         put (now (part .entry)) 0 (fileOf (allowedBy (now (steps .entry)))) ⌝ }

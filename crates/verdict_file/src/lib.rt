@@ -4,15 +4,17 @@ pub mod filling;
 
 use fields::Refusal;
 ghost use mathlib.Core.Path.{_≡_};
-ghost use mathlib.Core.Bool.{_&&_};
 ghost use Rattle.verdict_file.specs.Files.{impossible};
 ghost use Rattle.verdict_file.specs.Answers.{writtenOf};
-ghost use Rattle.verdict_file.specs.Writing.{allowedBy, writable, room, answer, output};
+ghost use Rattle.verdict_file.specs.Writing.{allowedBy, answer, output};
 
 // At most 256 steps, so 1,544 bytes.
 pub const STEPS_MOST: usize = 256;
 
 pub const FILE_MOST: usize = 1544;
+
+// At most 128 events in a log.
+pub const EVENTS_MOST: u64 = 128;
 
 pub const TAG_VERDICT: u8 = 0x10;
 
@@ -27,35 +29,36 @@ pub enum Written {
 }
 
 // Writes the file that says allowed, with these steps, each packed in a word: events before, location and
-// machine from the lowest byte up. Too little room after the offset, too many steps, or a step over three
-// bytes: refusal 1, and nothing changes.
+// machine from the lowest byte up. Refusal 1 where the file has no room after the offset, then 13 where the words
+// are not a verdict file's steps: too many, over three bytes, a count of events before that falls or is above 128.
+// A refusal changes nothing.
 pub fn write_allowed(out: &mut [u8], offset: usize, steps: &[u64]) -> Written
-    ensures { λ r. ⌜ writtenOf r ≡
-        answer (room (now (out .entry)) offset && writable (now (steps .entry)))
-        (allowedBy (now (steps .entry))) ⌝ }
+    ensures { λ r. ⌜ writtenOf r ≡ answer (now (out .entry)) offset (allowedBy (now (steps .entry))) ⌝ }
     ensures { λ r. ⌜ now (out .exit) ≡
-        output (room (now (out .entry)) offset && writable (now (steps .entry)))
-        (allowedBy (now (steps .entry))) (now (out .entry)) offset ⌝ }
+        output (now (out .entry)) offset (allowedBy (now (steps .entry))) ⌝ }
 {
     if !filling::has_room(out.len(), offset) {
         return Written::Refused(Refusal::BufferTooShort);
     }
     if !filling::are_steps(steps) {
-        return Written::Refused(Refusal::BufferTooShort);
+        return Written::Refused(Refusal::BadSchedule);
     }
     let part = &mut out[offset..];
     Written::Length(filling::fill_allowed(part, steps))
 }
 
-// Writes the file that says impossible, with the number of the first impossible event. Too little room after
-// the offset: refusal 1, and nothing changes.
+// Writes the file that says impossible, with the number of the first impossible event. Refusal 1 where the file has
+// no room after the offset, then 13 where the number is outside 1 to 128. A refusal changes nothing.
 pub fn write_impossible(out: &mut [u8], offset: usize, event: u8) -> Written
-    ensures { λ r. ⌜ writtenOf r ≡ answer (room (now (out .entry)) offset) (impossible event) ⌝ }
-    ensures { λ r. ⌜ now (out .exit) ≡
-        output (room (now (out .entry)) offset) (impossible event) (now (out .entry)) offset ⌝ }
+    ensures { λ r. ⌜ writtenOf r ≡ answer (now (out .entry)) offset (impossible event) ⌝ }
+    ensures { λ r. ⌜ now (out .exit) ≡ output (now (out .entry)) offset (impossible event) ⌝ }
 {
-    if !filling::has_room(out.len(), offset) {
+    let size = out.len();
+    if !filling::has_room(size, offset) {
         return Written::Refused(Refusal::BufferTooShort);
+    }
+    if !filling::is_event(event) {
+        return Written::Refused(Refusal::BadSchedule);
     }
     let part = &mut out[offset..];
     Written::Length(filling::fill_impossible(part, event))

@@ -1,5 +1,5 @@
--- `write_allowed` puts the file at the offset where it has room and the words are its steps, and changes
--- nothing where not.
+-- `write_allowed` puts the file at the offset where it has room and the words are its steps, and changes nothing
+-- where not.
 use Prim.Native.Nat.{ℕ, _+_, _≤_}
 use native.Mathlib.Omega.{arith}
 use mathlib.Core.Path.{_≡_, sym, _∙_}
@@ -10,10 +10,10 @@ use denote.Ref.{now}
 use borrow.Author.Needs.{needs}
 use borrow.Author.Tests.{not-true, not-false}
 use Rattle.model.proofs.Tests.{true→T}
-use Rattle.verdict_file.specs.Files.{fileMost}
+use Rattle.verdict_file.specs.Files.{Verdict, fileMost}
 use Rattle.verdict_file.specs.Writing.{allowedBy, writable, room}
 use Rattle.verdict_file.proofs.Put.{length-part}
-use Rattle.verdict_file.proofs.Writing.{has-room, refuses, writes}
+use Rattle.verdict_file.proofs.Writing.{has-room, no-room, no-form, file, refuses, writes}
 use Rattle.verdict_file.proofs.write_allowed.Statement.{statement}
 use Rattle.verdict_file.proofs.write_allowed.Tie as tie
 
@@ -24,18 +24,19 @@ returns : tie.Need-returns
 unfolding room
 returns c =
     let a = c .before .before .before .before .args in
-    refuses (allowedBy (now (a .steps))) (now (a .out)) (a .offset)
-    (rw (sym (c .before .has-room .ensures) ∙ not-true _ (c .if1 .taken)))
+    let v = allowedBy (now (a .steps)) in
+    let short = sym (c .before .has-room .ensures) ∙ not-true _ (c .if1 .taken) in
+    refuses (now (a .out)) (a .offset) v (no-room (now (a .out)) (a .offset) v short)
 
--- After the first question: the output, the offset, the words, and room for the file.
+-- After the first question: the output, the offset, the verdict, and room for the file.
 abbrev out : tie.Else1 → List ℕ
 out c = now (c .before .before .before .before .args .out)
 
 abbrev offset : tie.Else1 → ℕ
 offset c = c .before .before .before .before .args .offset
 
-abbrev words : tie.Else1 → List ℕ
-words c = now (c .before .before .before .before .args .steps)
+abbrev verdict : tie.Else1 → Verdict
+verdict c = allowedBy (now (c .before .before .before .before .args .steps))
 
 enough : (c : tie.Else1) → room (out c) (offset c) ≡ true
 unfolding room
@@ -50,11 +51,11 @@ are-steps-requires c κs = search needs
 returns-2 : tie.Need-returns-2
 returns-2 c =
     let d = c .before .before in
-    refuses (allowedBy (words d)) (out d) (offset d)
-    (rw (enough d) (sym (c .before .are-steps .ensures) ∙ not-true _ (c .if2 .taken)))
+    let none = sym (c .before .are-steps .ensures) ∙ not-true _ (c .if2 .taken) in
+    refuses (out d) (offset d) (verdict d) (no-form (out d) (offset d) (verdict d) (enough d) none)
 
 -- After the second: the words are steps.
-steps : (c : tie.Else2) → writable (words (c .before .before)) ≡ true
+steps : (c : tie.Else2) → writable (verdict (c .before .before)) ≡ true
 steps c = sym (c .before .are-steps .ensures) ∙ not-false _ (c .if2 .left)
 
 sub-part : tie.Need-sub-part
@@ -79,7 +80,8 @@ returns-3 c =
     let fill = c .before .before .fill-allowed .ensures in
     let asked = c .before .before .before .before in
     let d = asked .before .before in
-    writes (allowedBy (words d)) (out d) (offset d) (rw (enough d) (steps asked)) (fill .0) (fill .1)
+    writes (out d) (offset d) (verdict d) (file (out d) (offset d) (verdict d) (enough d) (steps asked))
+    (fill .0) (fill .1)
 
 pub write-allowed-spec : {M : Type 1} → statement M
 write-allowed-spec =

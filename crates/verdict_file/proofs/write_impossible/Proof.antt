@@ -1,4 +1,5 @@
--- `write_impossible` puts the file at the offset where it has room, and changes nothing where not.
+-- `write_impossible` puts the file at the offset where it has room and the number is an event's, and changes nothing
+-- where not.
 use Prim.Native.Nat.{ℕ, _+_, _≤_}
 use native.Mathlib.Omega.{arith}
 use mathlib.Core.Path.{_≡_, sym, _∙_}
@@ -8,10 +9,10 @@ use lib.ListN.{length}
 use denote.Ref.{now}
 use borrow.Author.Needs.{needs}
 use borrow.Author.Tests.{not-true, not-false}
-use Rattle.verdict_file.specs.Files.{impossible, fileMost}
-use Rattle.verdict_file.specs.Writing.{room}
+use Rattle.verdict_file.specs.Files.{Verdict, impossible, fileMost}
+use Rattle.verdict_file.specs.Writing.{writable, room}
 use Rattle.verdict_file.proofs.Put.{length-part}
-use Rattle.verdict_file.proofs.Writing.{has-room, refuses, writes}
+use Rattle.verdict_file.proofs.Writing.{has-room, no-room, no-form, file, refuses, writes}
 use Rattle.verdict_file.proofs.write_impossible.Statement.{statement}
 use Rattle.verdict_file.proofs.write_impossible.Tie as tie
 
@@ -22,15 +23,19 @@ returns : tie.Need-returns
 unfolding room
 returns c =
     let a = c .before .before .before .args in
-    refuses (impossible (a .event)) (now (a .out)) (a .offset)
-    (sym (c .before .has-room .ensures) ∙ not-true _ (c .if1 .taken))
+    let v = impossible (a .event) in
+    let short = sym (c .before .has-room .ensures) ∙ not-true _ (c .if1 .taken) in
+    refuses (now (a .out)) (a .offset) v (no-room (now (a .out)) (a .offset) v short)
 
--- After the question: the output, the offset, and room from there on.
+-- After the first question: the output, the offset, the verdict, and room for the file.
 abbrev out : tie.Else1 → List ℕ
 out c = now (c .before .before .before .args .out)
 
 abbrev offset : tie.Else1 → ℕ
 offset c = c .before .before .before .args .offset
+
+abbrev verdict : tie.Else1 → Verdict
+verdict c = impossible (c .before .before .before .args .event)
 
 enough : (c : tie.Else1) → room (out c) (offset c) ≡ true
 unfolding room
@@ -39,28 +44,43 @@ enough c = sym (c .before .has-room .ensures) ∙ not-false _ (c .if1 .left)
 fits : (c : tie.Else1) → offset c + fileMost ≤ length (out c)
 fits c = has-room (out c) (offset c) (enough c)
 
+is-event-requires : tie.Need-is-event-requires
+is-event-requires c κs = search needs
+
+returns-2 : tie.Need-returns-2
+returns-2 c =
+    let d = c .before .before in
+    let none = sym (c .before .is-event .ensures) ∙ not-true _ (c .if2 .taken) in
+    refuses (out d) (offset d) (verdict d) (no-form (out d) (offset d) (verdict d) (enough d) none)
+
+-- After the second: the number is an event's.
+event : (c : tie.Else2) → writable (verdict (c .before .before)) ≡ true
+event c = sym (c .before .is-event .ensures) ∙ not-false _ (c .if2 .left)
+
 sub-part : tie.Need-sub-part
-sub-part c = omega (arith, fits c)
+sub-part c = omega (arith, fits (c .before .before))
 
 part-part-start : tie.Need-part-part-start
-part-part-start c = omega (arith, fits c)
+part-part-start c = omega (arith, fits (c .before .before))
 
 part-part-end : tie.Need-part-part-end
 part-part-end c = omega arith
 
 fill-impossible-requires : tie.Need-fill-impossible-requires
 fill-impossible-requires c κs =
-    omega (arith, fits (c .before), length-part (out (c .before)) (offset (c .before)))
+    let d = c .before .before .before in
+    omega (arith, fits d, length-part (out d) (offset d))
 
 same-length : tie.Need-same-length
 same-length c = search needs
 
-returns-2 : tie.Need-returns-2
-returns-2 c =
+returns-3 : tie.Need-returns-3
+returns-3 c =
     let fill = c .before .before .fill-impossible .ensures in
-    let d = c .before .before .before .before in
-    let event = d .before .before .before .args .event in
-    writes (impossible event) (out d) (offset d) (enough d) (fill .0) (fill .1)
+    let asked = c .before .before .before .before in
+    let d = asked .before .before in
+    writes (out d) (offset d) (verdict d) (file (out d) (offset d) (verdict d) (enough d) (event asked))
+    (fill .0) (fill .1)
 
 pub write-impossible-spec : {M : Type 1} → statement M
 write-impossible-spec =
@@ -68,9 +88,11 @@ write-impossible-spec =
     (tie.spec
     has-room-requires
     returns
+    is-event-requires
+    returns-2
     sub-part
     part-part-start
     part-part-end
     fill-impossible-requires
     same-length
-    returns-2)
+    returns-3)

@@ -21,7 +21,7 @@ returns : tie.Need-returns
 returns c =
     let w = c .before .before .before .before .before .write-allowed .ensures in
     let start = c .before .before .before .before .before .before .before .before .before in
-    issued _ _ (w .0) (w .1) (c .before .n .given .1) (tells-allowed (now (start .args .steps)) _)
+    issued _ (w .0) (w .1) (c .before .n .given .1) (tells-allowed (now (start .args .steps)) _)
 
 same-length-2 : tie.Need-same-length-2
 same-length-2 c = search needs
@@ -29,7 +29,7 @@ same-length-2 c = search needs
 returns-2 : tie.Need-returns-2
 returns-2 c =
     let w = c .before .before .before .before .before .write-allowed .ensures in
-    not-issued _ _ (w .0) (w .1) (c .before .why .given .1)
+    not-issued _ (w .0) (w .1) (c .before .why .given .1)
 
 pub issue-allowed-spec : {M : Type 1} → statement M
 issue-allowed-spec =

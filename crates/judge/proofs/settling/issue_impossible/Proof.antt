@@ -19,7 +19,7 @@ same-length c = search needs
 returns : tie.Need-returns
 returns c =
     let w = c .before .before .before .before .before .write-impossible .ensures in
-    issued _ _ (w .0) (w .1) (c .before .n .given .1) (tells-impossible _ _)
+    issued _ (w .0) (w .1) (c .before .n .given .1) (tells-impossible _ _)
 
 same-length-2 : tie.Need-same-length-2
 same-length-2 c = search needs
@@ -27,7 +27,7 @@ same-length-2 c = search needs
 returns-2 : tie.Need-returns-2
 returns-2 c =
     let w = c .before .before .before .before .before .write-impossible .ensures in
-    not-issued _ _ (w .0) (w .1) (c .before .why .given .1)
+    not-issued _ (w .0) (w .1) (c .before .why .given .1)
 
 pub issue-impossible-spec : {M : Type 1} → statement M
 issue-impossible-spec =

@@ -45,7 +45,7 @@ returns c =
     let k = h .before in
     let a = start k .args in
     let first = ends-first (start k .pre .1) (visits k) (h .if1 .taken) in
-    let settled = settled-impossible (now (a .out)) (a .offset) (start k .pre .0) _ first in
+    let settled = settled-impossible (start k .pre .1) (now (a .out)) (a .offset) (start k .pre .0) _ first in
     (settled (c .before .before .issue-impossible .ensures), visits k .kept .sized)
 
 order-requires : tie.Need-order-requires
@@ -88,7 +88,7 @@ returns-2 c =
     let k = h .before in
     let a = start k .args in
     let found = arranged (start k .pre .1) (visits k) (h .if1 .left) (o .order .ensures) in
-    let settled = settled-allowed (now (a .out)) (a .offset) (start k .pre .0) found in
+    let settled = settled-allowed (start k .pre .1) (now (a .out)) (a .offset) (start k .pre .0) found in
     let part = part-words SORTED (k .before .before .before .visit-all .result .steps) (o .order .last .0) in (
       settled _ part (c .before .before .issue-allowed .ensures),
       o .order .ensures .sized ∙ visits k .kept .sized,

@@ -15,10 +15,10 @@ rest k n offset h =
     (λ t. le→leb k (n - offset) (omega (arith, leb→le (offset + k) n t)))
 
 returns : tie.Need-returns
-returns c = let a = c .before .args in sym (lt-leb (a .offset + 1544) (a .length) (omega arith))
+returns c = let a = c .before .args in sym (lt-leb (a .offset + 1544) (a .size) (omega arith))
 
 returns-2 : tie.Need-returns-2
-returns-2 c = let a = c .before .args in rest 1544 (a .length) (a .offset) (c .if1 .left)
+returns-2 c = let a = c .before .args in rest 1544 (a .size) (a .offset) (c .if1 .left)
 
 pub has-room-spec : {M : Type 1} → statement M
 has-room-spec = tie.close (tie.spec returns returns-2)
