@@ -29,8 +29,8 @@ packReplayed (replaying.refused number) = number
 -- Bit 8 is set if the verdict is allowed, bits 16 to 23 are the event, 24 to 39 the step count, 40 to 55 the
 -- length of the file.
 abbrev pub packJudged : judging.Answer → ℕ
-packJudged (judging.gives verdict event steps length) =
-    verdict * 2 ^ 8 + event * 2 ^ 16 + steps * 2 ^ 24 + length * 2 ^ 40
+packJudged (judging.gives verdict event steps len) =
+    verdict * 2 ^ 8 + event * 2 ^ 16 + steps * 2 ^ 24 + len * 2 ^ 40
 packJudged (judging.refused number) = number
 
 -- The counts of an answer fit the bits that they get. Those of every answer do, as proofs/Sizes.antt shows.
@@ -39,7 +39,7 @@ RecordedFits (count n) = n < 2 ^ 32
 RecordedFits (rejected number) = Unit {0}
 
 abbrev pub JudgedFits : judging.Answer → Type 0
-JudgedFits (judging.gives verdict event steps length) = (steps < 2 ^ 16) × (length < 2 ^ 16)
+JudgedFits (judging.gives verdict event steps len) = (steps < 2 ^ 16) × (len < 2 ^ 16)
 JudgedFits (judging.refused number) = Unit {0}
 
 -- The number is the judge's answer, packed, and the two areas are as the judge leaves them.

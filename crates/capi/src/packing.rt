@@ -78,14 +78,14 @@ pub(crate) fn pack_replayed(answer: Replayed) -> u64
 }
 
 // A verdict: allowed or impossible, the event, the step count and the length of the file.
-fn verdict(allowed: u8, event: u8, steps: usize, length: usize) -> u64
-    requires { ⌜ (steps < 2 ^ 16) × (length < 2 ^ 16) ⌝ }
-    ensures { λ r. ⌜ r ≡ allowed * 2 ^ 8 + event * 2 ^ 16 + steps * 2 ^ 24 + length * 2 ^ 40 ⌝ }
+fn verdict(allowed: u8, event: u8, steps: usize, len: usize) -> u64
+    requires { ⌜ (steps < 2 ^ 16) × (len < 2 ^ 16) ⌝ }
+    ensures { λ r. ⌜ r ≡ allowed * 2 ^ 8 + event * 2 ^ 16 + steps * 2 ^ 24 + len * 2 ^ 40 ⌝ }
 {
     allowed as u64 * 0x100
         + event as u64 * 0x10000
         + steps as u64 * 0x1000000
-        + length as u64 * 0x10000000000
+        + len as u64 * 0x10000000000
 }
 
 // What a judgement comes to.
@@ -94,8 +94,8 @@ pub(crate) fn pack_judged(answer: Judged) -> u64
     ensures { λ r. ⌜ r ≡ packJudged (judging.answerOf answer) ⌝ }
 {
     match answer {
-        Judged::Allowed(steps, length) => verdict(1, 0, steps, length),
-        Judged::Impossible(event, length) => verdict(0, event, 0, length),
+        Judged::Allowed(steps, len) => verdict(1, 0, steps, len),
+        Judged::Impossible(event, len) => verdict(0, event, 0, len),
         Judged::Refused(why) => refusal(why),
     }
 }

@@ -1,3 +1,5 @@
 pub mod Walks
 pub mod Walked
+pub mod Found
 pub mod Gathered
+pub mod Opens

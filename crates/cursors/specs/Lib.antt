@@ -1,2 +1,3 @@
 pub mod Cursors
+pub mod Answers
 pub mod Opening

@@ -19,7 +19,7 @@ use Rattle.judge.specs.declared.Judged as judged
 -- A verdict: 1 if allowed or 0 if impossible, the number of the first impossible event or 0, the step count, and the
 -- length of the file; or the number of a refusal alone.
 pub data Answer : Type 0 where
-  gives : (verdict event steps length : ℕ) → Answer
+  gives : (verdict event steps len : ℕ) → Answer
   refused : (number : ℕ) → Answer
 
 abbrev pub answerOf : judged.Judged → Answer
@@ -32,7 +32,8 @@ unfoldable pub told : Verdict → Answer
 told (allowed ps) = gives 1 0 (length ps) (length (fileOf (allowed ps)))
 told (impossible event) = gives 0 event 0 (length (fileOf (impossible event)))
 
--- What a call leaves: its answer, and the two areas that it was lent.
+-- What a call leaves: its answer, and the two areas that it was lent, the output and the scratch area
+-- (document 01: work area).
 pub record Outcome : Type 0 where
   pub answer : Answer
   pub out : List ℕ

@@ -4,14 +4,14 @@ use native.Mathlib.Numerals.{add-one}
 use native.Mathlib.Omega.{arith}
 use mathlib.Core.Path.{_≡_, refl, sym, ap, _∙_, subst}
 use mathlib.Core.Logic.{_≢_}
-use mathlib.Core.Bool.{Bool, true, false, cond, _&&_}
+use mathlib.Core.Bool.{Bool, true, false, cond}
 use mathlib.Core.List.{List, [], _∷_}
 use mathlib.Core.Option.{none, some, Option·some-injective}
-use lib.Dec.{T, eqb}
-use lib.ListN.{length, drop, getD}
+use lib.Dec.{T}
+use lib.ListN.{length, drop}
 use Rattle.model.specs.Cxl0 as cxl0
 use Rattle.model.specs.Cxl0.{Event, Action, event, silent, Propagate, WriteBack, possible, next}
-use Rattle.model.specs.Operations.{isOperation, eventOf}
+use Rattle.model.specs.Operations.{isOperation}
 use Rattle.model.specs.Schedule.{Step, silentOf, steps, weaveFrom, inOrder}
 use Rattle.model.specs.Meaning.{topologyOf, withinLimits, Outcome, attempt, attemptEvent}
 use Rattle.states.specs.States.{stateOf}
@@ -19,10 +19,10 @@ use Rattle.model.specs.declared.Topology.{Topology}
 use Rattle.model.specs.declared.Event as model
 use Rattle.model.proofs.Tests.{T→true}
 use Rattle.model.proofs.Weaving.{inOrder-cons, weave-due, weave-event}
-use Rattle.fields.specs.Fields.{payloadIn}
 use Rattle.log.proofs.Elements.{no-elements}
-use Rattle.cursors.specs.Cursors.{eventIn, eventAt, Events, next-event}
-use Rattle.cursors.specs.declared.EventAt.{EventAt}
+use Rattle.cursors.specs.Cursors.{Numbers, eventWith, eventAt, Events, next-event}
+use Rattle.cursors.specs.Answers.{numbersOf}
+use Rattle.cursors.proofs.Found.{operation-found}
 use Rattle.verdict_file.specs.Schedules.{stepAt, readSteps}
 use Rattle.verdict_file.proofs.Cursor.{walks, stops}
 use Rattle.replay.specs.Replaying.{Answer, counted, replayFrom}
@@ -71,34 +71,15 @@ one-action t w n act acts s a o e h =
 
 -- ---- what is next
 
--- Only an operation's event is found.
-operation-found : (s : List ℕ) (at : ℕ) (e : model.Event) (i : ℕ) → eventAt s at ≡ EventAt.Found e i
-    → isOperation (e .operation) ≡ true
-unfolding eventAt eventIn
-operation-found s at e i found =
-    let p = payloadIn (drop at s) in
-    go (eqb (length p) 5 && eqb (getD (drop at s) 0 0) 0x03) (isOperation (getD p 0 0)) _ refl found
-  where
-    go : (b c : Bool) (d : model.Event) → isOperation (d .operation) ≡ c
-        → cond (b && c) (EventAt.Found d (at + 3 + 5)) EventAt.Absent ≡ EventAt.Found e i
-        → isOperation (e .operation) ≡ true
-    go true true d o h = let same : d ≡ e = cc in rw (← same) o
-    go true false d o h = let z : _≡_ {A = ℕ} 0 1 = cc in absurd (omega arith)
-    go false c d o h = let z : _≡_ {A = ℕ} 0 1 = cc in absurd (omega arith)
-
--- One event is found at a position, and then it is not absent.
-pub one-found : {d e : model.Event} {i j : ℕ} → EventAt.Found d i ≡ EventAt.Found e j → (d ≡ e) × (i ≡ j)
-one-found h = (cc, cc)
-
-pub not-absent : {e : model.Event} {j : ℕ} → EventAt.Absent ≡ EventAt.Found e j → ⊥
-not-absent h = let z : _≡_ {A = ℕ} 0 1 = cc in omega arith
-
--- What is asked of an operation's event is what is asked of the event.
-attempted : (t : Topology) (e : model.Event) (s : cxl0.State) → isOperation (e .operation) ≡ true
-    → attemptEvent t e s
-    ≡ attempt t (event (eventOf (e .operation) (e .machine .0) (e .location .0) (e .value))) s
+-- What is asked of the struct of an event that is found is what is asked of the event.
+pub attempted : (t : Topology) (s : List ℕ) (at : ℕ) (d : model.Event) {e : Numbers} {i : ℕ}
+    → eventAt s at ≡ some (e, i) → numbersOf d ≡ e → (state : cxl0.State)
+    → attemptEvent t d state ≡ attempt t (event (eventWith e)) state
 unfolding attemptEvent
-attempted t e s o = rw o
+attempted t s at d {e} {i} found same state =
+    let known : isOperation (d .operation) ≡ true =
+    ap (λ (x : Numbers). isOperation (x .operation)) same ∙ operation-found s at e i found in
+    rw (known, ← same)
 
 module _ {s f : List ℕ} {t : Topology} {n : ℕ} {a : Answer} {k : ℕ} {w : Place}
     (g : Stands s f t n a (suc k) w) where
@@ -153,8 +134,8 @@ module _ {s f : List ℕ} {t : Topology} {n : ℕ} {a : Answer} {k : ℕ} {w : P
 
   -- The event, where no step is due.
   event-next : T (inOrder (suc (w .passed)) n (g .ps)) → 1 ≤ length (g .es) → (r : Went)
-      → ((e : model.Event) (i : ℕ) → eventAt s (w .event) ≡ EventAt.Found e i → w .passed < n
-      → Took t (attemptEvent t e (stateOf t (w .state))) (w .passed + 1) i (w .step) r)
+      → ((e : Numbers) (i : ℕ) → eventAt s (w .event) ≡ some (e, i) → w .passed < n
+      → Took t (attempt t (event (eventWith e)) (stateOf t (w .state))) (w .passed + 1) i (w .step) r)
       → Goes s f t n a k w r
   event-next later more r took = go (w .event) (g .es) (g .end) (g .events) refl refl
     where
@@ -162,20 +143,19 @@ module _ {s f : List ℕ} {t : Topology} {n : ℕ} {a : Answer} {k : ℕ} {w : P
           → Goes s f t n a k w r
       go at [] end events x y = absurd (omega (arith, ap length y))
       go at (_ ∷ es) end (next-event e i found events) x y =
-          let v = eventOf (e .operation) (e .machine .0) (e .location .0) (e .value) in
+          let v = eventWith e in
           let low : w .passed < n = omega (arith, g .all) in
-          let asked = attempted t e (stateOf t (w .state)) (operation-found s at e i found) in
           goes (event v) es (g .ps) i (w .step) end (g .least) r
           (rw y (weave-event (w .passed) n v es (g .ps) later))
           events (g .steps)
           (omega (arith, g .ahead, ap length y)) (omega (arith, g .all, ap length y)) (g .order)
-          (rw (add-one, asked) at (took e i (rw x found) low))
+          (rw add-one at (took e i (rw x found) low))
 
   -- What the event comes to, where there is one.
   abbrev pub Event-took : Went → Type 0
   Event-took r =
-      (e : model.Event) (i : ℕ) → eventAt s (w .event) ≡ EventAt.Found e i → w .passed < n
-      → Took t (attemptEvent t e (stateOf t (w .state))) (w .passed + 1) i (w .step) r
+      (e : Numbers) (i : ℕ) → eventAt s (w .event) ≡ some (e, i) → w .passed < n
+      → Took t (attempt t (event (eventWith e)) (stateOf t (w .state))) (w .passed + 1) i (w .step) r
 
   -- The event, where the next step comes later.
   pub event-goes : (p : Step) (j : ℕ) (r : Went) → stepAt f (w .step) ≡ some (p, j) → w .passed < p .before

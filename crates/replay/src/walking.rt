@@ -10,13 +10,12 @@ use states::State;
 use states::Stepped;
 ghost use Prim.Native.Nat.{ℕ, suc, _+_, _<_};
 ghost use mathlib.Core.Path.{_≡_};
-ghost use Rattle.model.specs.Cxl0.{silent};
+ghost use mathlib.Core.Option.{some};
+ghost use Rattle.model.specs.Cxl0.{event, silent};
 ghost use Rattle.model.specs.Schedule.{silentOf};
-ghost use Rattle.model.specs.Meaning.{attempt, attemptEvent};
+ghost use Rattle.model.specs.Meaning.{attempt};
 ghost use Rattle.states.specs.States.{stateOf, outcomeOf};
-ghost use Rattle.model.specs.declared.Event.{Event};
-ghost use Rattle.cursors.specs.Cursors.{eventAt};
-ghost use Rattle.cursors.specs.declared.EventAt.the-variants.{Found};
+ghost use Rattle.cursors.specs.Cursors.{Numbers, eventWith, eventAt};
 ghost use Rattle.schedules.specs.Answers.{stepOf};
 ghost use Rattle.replay.specs.Replaying.{Answer};
 ghost use Rattle.replay.specs.Answers.{answerOf};
@@ -71,9 +70,9 @@ fn take_step(t: Topology, w: Place, p: Step, next: usize) -> Went
 
 // Takes the next event of a log that has `events` of them.
 fn take_event(log: &[u8], t: Topology, events: u8, w: Place) -> Went
-    ensures { λ r. ⌜ ((e : Event) (next : ℕ) → eventAt (now (log .entry)) (w .event) ≡ Found e next
+    ensures { λ r. ⌜ ((e : Numbers) (next : ℕ) → eventAt (now (log .entry)) (w .event) ≡ some (e, next)
         → w .passed < events
-        → Took t (attemptEvent t e (stateOf t (w .state))) (w .passed + 1) next (w .step) r) ⌝ }
+        → Took t (attempt t (event (eventWith e)) (stateOf t (w .state))) (w .passed + 1) next (w .step) r) ⌝ }
 {
     let at = w.event;
     if events <= w.passed {

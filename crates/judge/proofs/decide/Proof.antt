@@ -1,13 +1,14 @@
 -- `decide` gives an accepted log its verdict.
 use Prim.Native.Nat.{ℕ}
 use native.Mathlib.Omega.{arith}
-use mathlib.Core.Path.{ap, _∙_}
+use mathlib.Core.Path.{sym, ap, _∙_, subst}
 use mathlib.Core.List.{List}
 use denote.Ref.{now}
 use borrow.Author.Needs.{needs}
 use Rattle.log.specs.Bytes.{Bytes}
 use Rattle.log.proofs.Each.{bytes-by-index}
 use Rattle.cursors.specs.Opening.{Opens}
+use Rattle.cursors.proofs.Opens.{opens-accepted}
 use Rattle.judge.specs.Clearing.{zeros}
 use Rattle.judge.proofs.Deciding.{fit-out, fit-scratch, loadable, loads-loaded, decided}
 use Rattle.judge.proofs.decide.Statement.{statement}
@@ -24,7 +25,9 @@ bytes : (c : tie.After-open) → Bytes (log c)
 bytes c = bytes-by-index (log c) (λ i. omega (arith, c .before .before .before .shared-slice-known .given i))
 
 opens : (c : tie.After-open) → Opens (log c) (start c .pre .1 .0) (c .«open» .result)
-opens c = let (r, read, heads) = start c .pre .1 in c .«open» .ensures r read heads
+opens c =
+    let (r, read, heads) = start c .pre .1 in
+    subst (Opens (log c) r) (sym (c .«open» .ensures)) (opens-accepted (log c) (bytes c) r read heads)
 
 open-requires : tie.Need-open-requires
 open-requires c κs = search needs

@@ -2,6 +2,12 @@
 use native.Mathlib.Omega.{arith}
 use mathlib.Core.Path.{_≡_, refl, sym, ap, _∙_}
 use denote.Ref.{now}
+use Rattle.log.specs.Records.{Records}
+use Rattle.log.specs.Reading.{accepted, readLog}
+use Rattle.log.specs.Answers.{headOf}
+use Rattle.log.proofs.Each.{bytes-by-index}
+use Rattle.cursors.specs.Opening.{Opens}
+use Rattle.cursors.proofs.Opens.{opens-accepted}
 use Rattle.model.specs.Meaning.{topologyOf}
 use Rattle.log.specs.declared.Head.{Head}
 use Rattle.verdict_file.specs.Answers.{gives}
@@ -25,6 +31,15 @@ enum-known-steps c = search needs
 
 cast-ahead : tie.Need-cast-ahead
 cast-ahead c = search needs
+
+-- What is open of an accepted log.
+opens : (c : tie.After-open) (r : Records)
+    → let a = c .before .before .before .args in
+    readLog (now (a .log)) ≡ accepted r → headOf r ≡ a .head → Opens (now (a .log)) r (c .«open» .result)
+opens c r read heads =
+    let s = now (c .before .before .before .args .log) in
+    let bytes = bytes-by-index s (λ i. omega (arith, c .before .before .shared-slice-known .given i)) in
+    rw (c .«open» .ensures) (opens-accepted s bytes r read heads)
 
 -- The count of steps is that of a schedule.
 told : (c : tie.After-steps)
@@ -50,7 +65,7 @@ returns : tie.Need-returns
 returns c = λ r e h.
     let b = c .before .before .before .before in
     let first = b .before .before .before .before in
-    let opened = first .«open» .ensures r e h in
+    let opened = opens first r e h in
     let events = ap (λ (k : Head). k .events) h in
     let (ps, read, count) = steps-read _ _ (told b) in
     let stands = stands-first _ ps _ opened read events (c .before .start .ensures .0) refl refl refl in
@@ -59,7 +74,7 @@ returns c = λ r e h.
 returns-2 : tie.Need-returns-2
 returns-2 c = λ r e h.
     let b = c .before .before .before in
-    let opened = b .before .before .«open» .ensures r e h in
+    let opened = opens (b .before .before) r e h in
     let events = ap (λ (k : Head). k .events) h in
     let told = ap scheduledOf (sym (c .before .why .given .1)) ∙ b .read-schedule .ensures in
     let (none-left, number) = none-read _ _ told in

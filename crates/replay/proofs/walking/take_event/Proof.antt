@@ -3,7 +3,9 @@ use native.Mathlib.Omega.{arith}
 use mathlib.Core.Path.{refl, sym, ap, _∙_}
 use Rattle.model.specs.Meaning.{Outcome}
 use Rattle.states.specs.States.{outcomeOf}
-use Rattle.replay.proofs.Going.{one-found, not-absent}
+use Rattle.cursors.specs.Answers.{eventAtOf}
+use Rattle.cursors.proofs.Found.{one-found, not-absent}
+use Rattle.replay.proofs.Going.{attempted}
 use borrow.Author.Needs.{needs}
 use Rattle.replay.proofs.walking.take_event.Statement.{statement}
 use Rattle.replay.proofs.walking.take_event.Tie as tie
@@ -31,8 +33,9 @@ unfolding outcomeOf
 returns-2 c = λ e next found low.
     let a = c .before .before in
     let h = a .before .before .before in
-    let (same, after) = one-found (sym (h .e .given .1) ∙ h .before .before .event-at .ensures ∙ found) in
-    let came = rw same at (a .apply .ensures .0) in
+    let told = ap eventAtOf (sym (h .e .given .1)) ∙ h .before .before .event-at .ensures in
+    let (same, after) = one-found told found in
+    let came = a .apply .ensures .0 ∙ attempted _ _ _ _ found same _ in
     record {
       possible = ap (λ (o : Outcome). o .possible) came;
       state = ap (λ (o : Outcome). o .state) came;
@@ -43,7 +46,8 @@ returns-2 c = λ e next found low.
 
 returns-3 : tie.Need-returns-3
 returns-3 c = λ e next found low.
-    absurd (not-absent (sym (c .enum-told .given .1) ∙ c .before .before .event-at .ensures ∙ found))
+    let told = ap eventAtOf (sym (c .enum-told .given .1)) ∙ c .before .before .event-at .ensures in
+    absurd (not-absent told found)
 
 pub take-event-spec : {M : Type 1} → statement M
 take-event-spec =
