@@ -17,14 +17,13 @@ use model::Machine;
 ghost use mathlib.Core.Path.{_≡_};
 ghost use mathlib.Core.Bool.{true, cond, not};
 ghost use mathlib.Core.Logic.{_↔_, _≢_};
-ghost use mathlib.Core.List.{[]};
 ghost use lib.Dec.{T};
 ghost use Prim.Native.Nat.{ℕ, _<_};
 ghost use Rattle.model.specs.Cxl0.{Topology, Load};
 ghost use Rattle.model.specs.Sharers.{has, insert, remove};
 ghost use Rattle.model.specs.OneLocation.{eventAt};
 ghost use Rattle.masks.specs.Sets.{In, Exactly, OneToSix};
-ghost use Rattle.rows.specs.Rows.{Fine, RowOf, Right, Closed, Gap};
+ghost use Rattle.rows.specs.Rows.{Fine, Empty, anyRow, lastRow, RowOf, Closed, Gap};
 ghost use Rattle.rows.specs.Lines.{Line};
 ghost use Rattle.rows.specs.Sites.{meant, Describes, copyAfter};
 ghost use Rattle.rows.specs.Steps.{Stepped};
@@ -80,14 +79,14 @@ pub fn fine(row: Row, c: u8, m: u32) -> bool
 
 // The row has no state.
 pub fn is_empty(row: Row) -> bool
-    ensures { λ r. ⌜ ((r ≡ true) → (c m : ℕ) → ¬ Fine row c m) ⌝ }
+    ensures { λ r. ⌜ (r ≡ true) ↔ Empty row ⌝ }
 {
     (row.any | row.one) == 0
 }
 
 // The codes of a set, with every memory value.
 fn any_row(any: u64) -> Row
-    ensures { λ r. ⌜ RowOf (λ c m. In c any) r ⌝ }
+    ensures { λ r. ⌜ r ≡ anyRow any ⌝ }
 {
     Row {
         any: any,
@@ -98,14 +97,9 @@ fn any_row(any: u64) -> Row
 
 // After the last event every state is fine.
 pub fn last_row() -> Row
-    ensures right { λ r. ⌜ ((sys : Topology) (x u : ℕ) → Right sys x [] u r) ⌝ }
-    ensures closed { λ r. ⌜ ((u : ℕ) → Closed u r) ⌝ }
+    ensures { λ r. ⌜ r ≡ lastRow ⌝ }
 {
-    Row {
-        any: all(),
-        one: 0,
-        value: 0,
-    }
+    any_row(all())
 }
 
 // LStore and RStore, which leave a copy at one machine, whose code is t.

@@ -3,7 +3,7 @@
 use Prim.Native.Nat.{ℕ, zero, suc, _+_, _-_, _≤_, _<_}
 use native.Mathlib.Omega.{arith}
 use mathlib.Core.Path.{_≡_, ap, _∙_, subst}
-use mathlib.Core.List.{List, [], _∷_}
+use mathlib.Core.List.{List, _∷_}
 use lib.ListN.{length, drop}
 use Rattle.model.specs.Cxl0.{Location, Value, Topology, owner, Event, event}
 use Rattle.model.specs.OneLocation.{Local, nextAt, HasRunAt}
@@ -12,7 +12,7 @@ use Rattle.model.proofs.Gaps.{has-run-cons}
 use Rattle.masks.specs.Sets.{OneToSix}
 use Rattle.rows.specs.declared.Row.{Row}
 use Rattle.rows.specs.declared.Site.{Site}
-use Rattle.rows.specs.Rows.{state, Fine, Right, Closed}
+use Rattle.rows.specs.Rows.{state, Fine, Empty, lastRow}
 use Rattle.rows.specs.Steps.{Stepped}
 use Rattle.rows.specs.Sites.{Describes, machineOf, copyAfter}
 use Rattle.rows.proofs.RowSteps.{next-copy, next-fits}
@@ -44,11 +44,8 @@ pub record Retracing (s : Site) (m t : ℕ) (w w' : List ℕ) (row : Row) : Type
   pub without : t < m → ¬ HasPlace w t row
 
 -- It begins behind the last event.
-pub retracing-none : (s : Site) (m : ℕ) (w : List ℕ) {row : Row}
-    → ((sys : Topology) (x : Location) (u : Value) → Right sys x [] u row) → ((u : Value) → Closed u row)
-    → Retracing s m m w w row
-retracing-none s m w right closed =
-    record { written = written-none s m w right closed; without = λ h. absurd (omega arith) }
+pub retracing-none : (s : Site) (m : ℕ) (w : List ℕ) → Retracing s m m w w lastRow
+retracing-none s m w = record { written = written-none s m w; without = λ h. absurd (omega arith) }
 
 module _ {s : Site} {m : ℕ} {w : List ℕ} (able : Retraceable s m w) where
   -- There is room for row t.
@@ -151,7 +148,7 @@ module _ {s : Site} {m : ℕ} {w : List ℕ} (able : Retraceable s m w) (sys : T
 module _ {s : Site} {m : ℕ} {w : List ℕ} (able : Retraceable s m w) where
   -- A row without a state ends the pass: there is no run from the first place.
   pub retraced-empty : {d : ℕ} {w' : List ℕ} {row : Row} → Written s m d w w' row
-      → ((c n : ℕ) → ¬ Fine row c n) → Retraced s m w m w'
+      → Empty row → Retraced s m w m w'
   retraced-empty {d} written empty =
       record {
         frame = written .frame;

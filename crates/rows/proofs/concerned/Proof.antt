@@ -1,4 +1,4 @@
--- `search::table::concerned` meets its contract: operations 1 to 6 are those with a location.
+-- `rows::concerned` meets its contract: operations 1 to 6 are those with a location.
 use native.Mathlib.Omega.{arith}
 use mathlib.Core.Path.{sym}
 use Rattle.model.specs.OneLocation.{eventAt}

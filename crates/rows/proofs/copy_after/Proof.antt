@@ -1,4 +1,4 @@
--- `search::table::copy_after` meets its contract: operations 1 and 2 are those that give copies a value.
+-- `rows::copy_after` meets its contract: operations 1 and 2 are those that give copies a value.
 use native.Mathlib.Omega.{arith}
 use mathlib.Core.Path.{sym}
 use borrow.Author.Tests.{eq-eqb, ne-eqb}

@@ -1,4 +1,4 @@
--- `search::table::row_before` meets its contract: each arm is a line of the table.
+-- `rows::row_before` meets its contract: each arm is a line of the table.
 use borrow.Author.Needs.{needs}
 use native.Mathlib.Omega.{arith}
 use Rattle.model.specs.Operations.{eventOf}

@@ -1,4 +1,4 @@
--- `search::table::row_step` meets its contract, where the event concerns the location and where it does not.
+-- `rows::row_step` meets its contract, where the event concerns the location and where it does not.
 use borrow.Author.Needs.{needs}
 use mathlib.Core.Path.{sym, _∙_}
 use Rattle.model.proofs.Tests.{true→T, false→not}

@@ -1,4 +1,4 @@
--- `search::scratch::put_event` meets its contract.
+-- `walking::scratch::put_event` meets its contract.
 use native.Mathlib.Omega.{arith}
 use borrow.Author.Needs.{needs}
 use lib.ListN.{length-set}
