@@ -12,7 +12,7 @@ use Rattle.walking.specs.Access.{WORDS, OnlyIn}
 use Rattle.walking.proofs.Frames.{getD-below, getD-above, only-wider}
 use Rattle.walking.proofs.Access.{two-read, two-only}
 use Rattle.walking.proofs.Events.{events-suc}
-use Rattle.events.specs.Linking.{LOG, HEADS, placeIn, placesFrom, placesIn, Linked}
+use Rattle.events.specs.Linking.{LOG, headOf, placeIn, placesFrom, placesIn, Linked}
 use Rattle.events.specs.Picking.{copied}
 use Rattle.events.proofs.Places.{atPlace}
 use Rattle.events.proofs.LogWords.{wordOf, valueOf, log-event, log-event-same, events-at, events-are}
@@ -91,7 +91,7 @@ linked-same {es} {w} {w'} only linked =
       places = λ j h. rw (first j) (linked .places j h);
       owns = λ x j h o. rw (first j) (linked .owns x j h o);
       crashes = λ j h. rw (first j) (linked .crashes j h);
-      heads = λ x h. getD-above only (HEADS + x) (omega arith) ∙ linked .heads x h;
+      heads = λ x h. getD-above only (headOf x) (omega arith) ∙ linked .heads x h;
     }
 
 -- And the other way round.

@@ -15,7 +15,7 @@ use Rattle.model.proofs.Tests.{by-test, T→true, not→false}
 use Rattle.walking.specs.Scratch.{eventsFrom, eventsIn}
 use Rattle.events.specs.declared.picking.Pick.{Pick}
 use Rattle.events.specs.Thinning.{ownEvent, isCrash, Thins, rest, Leads, begin}
-use Rattle.events.specs.Linking.{HEADS, nextOwnIn, nextCrashIn, placesFrom, placesIn, firstFrom, Linked}
+use Rattle.events.specs.Linking.{headOf, nextOwnIn, nextCrashIn, placesFrom, placesIn, firstFrom, Linked}
 use Rattle.events.specs.Picking.{copied, nearer, pickFrom, pickAfter}
 use Rattle.events.proofs.Places.{atPlace, First, first-of, first-next, first-later}
 use Rattle.events.proofs.Leading.{own-no-crash, unconcerned, none-own, keep-at, skip-to, lead-to}
@@ -46,7 +46,7 @@ pub record UpTo (es : List Event) (x m : ℕ) (p : Pick) (w : List ℕ) : Type 0
 
 -- Where the first event that names x is not among the first m events, none is kept.
 pub pick-none : {es : List Event} {w : List ℕ} {x m : ℕ} → Linked es w → x < 32 → m ≤ length es
-    → m ≤ getD w (HEADS + x) 0 → Leads x 0 (take m es) (eventsIn w 0) (placesIn w 0)
+    → m ≤ getD w (headOf x) 0 → Leads x 0 (take m es) (eventsIn w 0) (placesIn w 0)
 unfolding eventsFrom placesFrom
 pick-none {es} {w} {x} {m} linked h within none =
     let head = linked .heads x h in
@@ -73,7 +73,7 @@ module _ {es : List Event} {w : List ℕ} {x m : ℕ} (linked : Linked es w) (wi
         ) leads
 
   -- The first event that names x is copied first.
-  pub pick-begun : (first : ℕ) → x < 32 → first ≡ getD w (HEADS + x) 0 → first < m
+  pub pick-begun : (first : ℕ) → x < 32 → first ≡ getD w (headOf x) 0 → first < m
       → UpTo es x m (pickFrom first w) (copied first 0 w)
   unfolding eventsFrom placesFrom
   pick-begun first h e inside =
