@@ -18,7 +18,7 @@ use Rattle.walking.specs.Scratch.{ROWS, STEPS, eventIn, eventsIn, rowIn, copyIn
 use Rattle.walking.specs.Access.{MOST, RowPut}
 use Rattle.walking.specs.Passes.{Copies, Answers, Ready, Steppable, OnlyRows}
 use Rattle.walking.proofs.Frames.{only-none, only-then, only-wider, getD-below, getD-above}
-use Rattle.walking.proofs.Events.{event-same, events-drop, events-drop-all, copies-suc}
+use Rattle.walking.proofs.Events.{struct-same, event-same, events-drop, events-drop-all, copies-suc}
 
 -- ---- what a row leaves as it was
 
@@ -116,7 +116,7 @@ module _ {s : Site} {m t : ℕ} {w w' w'' : List ℕ} {row : Row} (ready : Ready
           room = omega (arith, ready .room, frame-put .frame .sized);
           few = omega (arith, ready .few, below);
           owner = ready .owner;
-          machine = rw same (ready .machines d below);
+          known = rw (struct-same (frame-put .frame) d (omega (arith, ready .few, written .bound))) (ready .known d below);
           closed = rw (frame-put .copies d, same, after) (rest .closed);
         }
 

@@ -20,7 +20,7 @@ use Rattle.walking.specs.Scratch.{ROWS, STEPS, PLACES, eventIn, eventsIn, copyI
 use Rattle.walking.specs.Access.{WORDS, MOST, OnlyIn, RowPut}
 use Rattle.walking.specs.Passes.{OnlyRows}
 use Rattle.walking.proofs.Frames.{getD-above}
-use Rattle.walking.proofs.Events.{events-same, events-drop}
+use Rattle.walking.proofs.Events.{known-machine, events-same, events-drop}
 use Rattle.search.specs.Paths.{Retraceable, Retraced, RunsFrom}
 use Rattle.search.proofs.Backward.{Written, From, written-none, written-more, copy-next}
 
@@ -142,7 +142,7 @@ module _ {s : Site} {m : ℕ} {w : List ℕ} (able : Retraceable s m w) (sys : T
       let f = run-leads run d (omega arith) in
       let r = rw (events-drop w d m h) at (f .3) in
       let g = run-passes sys x own (eventIn w d) (drop (suc d) (eventsIn w m)) (copyIn w d)
-      (able .ready .machines d h) (f .0) (f .1) (f .2) r in
+      (known-machine w d (able .ready .known d h)) (f .0) (f .1) (f .2) r in
       (g .0, g .1, g .2, rw (copy-next x m w (able .ready .copies) d h) at (g .3))
 
 module _ {s : Site} {m : ℕ} {w : List ℕ} (able : Retraceable s m w) where

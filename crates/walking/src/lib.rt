@@ -1,7 +1,8 @@
 // The walk of one location over rows: before each event, the silent steps that lead to a state from which the event
 // is possible and the events after it can be finished.
 //
-// Callers see to it that the rows are there and that the events have a run from the place where the walk begins.
+// Callers see to it that the rows are there, that the events have a run from the place where the walk begins, and that
+// they are known, so that none comes to the arms of refused operations.
 use crate::scratch::get_copy;
 use crate::scratch::get_event;
 use crate::scratch::get_row;
@@ -23,7 +24,7 @@ ghost use lib.ListN.{length};
 ghost use Rattle.model.specs.Sharers.{has};
 ghost use Rattle.masks.specs.Sets.{OneToSix};
 ghost use Rattle.rows.specs.Rows.{Fine};
-ghost use Rattle.rows.specs.Sites.{meant};
+ghost use Rattle.rows.specs.Sites.{meant, Known};
 ghost use Rattle.walking.specs.Stored.{Stored};
 ghost use Rattle.walking.specs.Trails.{FirstHolder, oneIf, givesUp, leaving, wordOf};
 ghost use Rattle.walking.specs.Places.{codeAfter, memoryAfter, placeAfter};
@@ -154,7 +155,7 @@ fn gap(w: &mut [u64], site: Site, t: usize, u: u32, row: Row, p: Place) -> Place
 // The code after an event of the site.
 fn code_after(site: Site, e: Event, c: u8) -> u8
     requires { ⌜ OneToSix (site .owner .0) ⌝ }
-    requires { ⌜ OneToSix (e .machine .0) ⌝ }
+    requires { ⌜ Known e ⌝ }
     requires { ⌜ c < 64 ⌝ }
     ensures { λ r. ⌜ r ≡ codeAfter (site .owner .0) (meant e) c ⌝ }
 {
@@ -167,12 +168,15 @@ fn code_after(site: Site, e: Event, c: u8) -> u8
         4 => if c == 0 { 0 } else { c | alone(i) },
         5 => c,
         6 => c,
-        _ => c & !alone(i),
+        7 => c & !alone(i),
+        0 => c,
+        8..=255 => c,
     }
 }
 
 // The memory value after an event of the site.
 fn memory_after(site: Site, e: Event, m: u32) -> u32
+    requires { ⌜ Known e ⌝ }
     ensures { λ r. ⌜ r ≡ memoryAfter site (meant e) m ⌝ }
 {
     let operation = e.operation;
@@ -183,18 +187,20 @@ fn memory_after(site: Site, e: Event, m: u32) -> u32
         4 => m,
         5 => m,
         6 => m,
-        _ => if (site.owner.0 == e.machine.0) & site.volatile {
+        7 => if (site.owner.0 == e.machine.0) & site.volatile {
             site.initial
         } else {
             m
         },
+        0 => m,
+        8..=255 => m,
     }
 }
 
 // The place after an event of the site.
 pub fn place_after(site: Site, e: Event, p: Place) -> Place
     requires { ⌜ OneToSix (site .owner .0) ⌝ }
-    requires { ⌜ OneToSix (e .machine .0) ⌝ }
+    requires { ⌜ Known e ⌝ }
     requires { ⌜ p .code < 64 ⌝ }
     ensures { λ r. ⌜ r ≡ placeAfter site (meant e) p ⌝ }
 {

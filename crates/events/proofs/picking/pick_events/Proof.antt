@@ -42,6 +42,7 @@ returns c =
       few = omega arith;
       leads = λ es linked within. pick-none linked (start .pre .1) within
           (rw (head .head-of .ensures) at (c .if1 .taken));
+      operations = λ es linked within j h. absurd (omega arith);
     }
 
 pick-first-requires : tie.Need-pick-first-requires Inv-loop μ-loop
@@ -122,12 +123,13 @@ returns-2 c =
     let h = c .before .before in
     let up = turn h in
     let first = first-frame (h .before .before .before) in
+    let at = at-head (h .before .before .before .before) in
     record {
       frame = only-then first (h .loop .inv .0);
       few = omega (arith, up .few, up .reached);
       leads = λ es linked within.
-          pick-done (h .loop .inv .1 _ es (at-head (h .before .before .before .before)) (linked-same first linked) within)
-          (c .if2 .left);
+          pick-done (h .loop .inv .1 _ es at (linked-same first linked) within) (c .if2 .left);
+      operations = λ es linked within. h .loop .inv .1 _ es at (linked-same first linked) within .operations;
     }
 
 pub pick-events-spec : {M : Type 1} → statement M
