@@ -6,13 +6,16 @@ use native.Mathlib.Omega.{arith}
 use mathlib.Core.Path.{_≡_, refl, sym, ap, _∙_}
 use mathlib.Core.List.{List, [], _∷_, _++_}
 use lib.ListN.{length, getD, drop}
+use lib.Dec.{T, eqb, eqb→eq}
 use Rattle.model.specs.Cxl0.{Event}
+use Rattle.model.specs.Operations.{isOperation}
+use Rattle.model.proofs.Tests.{by-test, ne-test}
 use Rattle.walking.specs.Scratch.{EVENTS, ROWS, eventIn, eventsFrom, eventsIn}
 use Rattle.walking.specs.Access.{WORDS, OnlyIn}
 use Rattle.walking.proofs.Frames.{getD-below, getD-above, only-wider}
 use Rattle.walking.proofs.Access.{two-read, two-only}
 use Rattle.walking.proofs.Events.{events-suc}
-use Rattle.events.specs.Linking.{LOG, HEADS, placeIn, placesFrom, placesIn, Linked}
+use Rattle.events.specs.Linking.{LOG, headOf, operationIn, placeIn, placesFrom, placesIn, Linked}
 use Rattle.events.specs.Picking.{copied}
 use Rattle.events.proofs.Places.{atPlace}
 use Rattle.events.proofs.LogWords.{wordOf, valueOf, log-event, log-event-same, events-at, events-are}
@@ -71,6 +74,16 @@ module _ (w : List ℕ) (j k : ℕ) (room : WORDS ≤ length w) (low : k < 129) 
   copied-places =
       rw (add-one k, places-suc (copied j k w) k, kept-places 0 k (omega arith), first-read)
 
+  -- With an operation of the log, the copied event has one of the seven, as those before it have.
+  pub copied-operations : T (isOperation (operationIn LOG w j))
+      → ((i : ℕ) → i < k → T (isOperation (operationIn EVENTS w i)))
+      → (i : ℕ) → i < k + 1 → T (isOperation (operationIn EVENTS (copied j k w) i))
+  copied-operations last others i h =
+      by-test (eqb i k)
+      (λ t. rw (eqb→eq i k t, first-read) last)
+      (λ t. let below : i < k = omega (arith, ne-test i k t) in
+      rw (getD-below narrow (EVENTS + 2 * i) (omega arith)) (others i below))
+
 -- The event at a place of the log.
 pub linked-event : {es : List Event} {w : List ℕ} → Linked es w → (i : ℕ) → i < length es
     → eventIn (drop LOG w) i ≡ atPlace es i
@@ -88,10 +101,11 @@ linked-same {es} {w} {w'} only linked =
       few = linked .few;
       events = events-are (drop LOG w') es
           (λ i h. log-event-same w w' i (first i) (second i) ∙ linked-event linked i h);
+      operations = λ j h. rw (first j) (linked .operations j h);
       places = λ j h. rw (first j) (linked .places j h);
       owns = λ x j h o. rw (first j) (linked .owns x j h o);
       crashes = λ j h. rw (first j) (linked .crashes j h);
-      heads = λ x h. getD-above only (HEADS + x) (omega arith) ∙ linked .heads x h;
+      heads = λ x h. getD-above only (headOf x) (omega arith) ∙ linked .heads x h;
     }
 
 -- And the other way round.

@@ -10,16 +10,19 @@ use lib.ListN.{length, getD, take, drop}
 use lib.Seq.{getD-take, length-take-le}
 use borrow.Author.Tests.{ltb-true, ltb-false}
 use Rattle.model.specs.Cxl0.{Event, Crash}
+use Rattle.model.specs.Operations.{isOperation}
 use Rattle.model.specs.OneLocation.{eventAt}
 use Rattle.model.proofs.Tests.{by-test, T→true, not→false}
-use Rattle.walking.specs.Scratch.{eventsFrom, eventsIn}
+use Rattle.walking.specs.Scratch.{EVENTS, eventsFrom, eventsIn}
 use Rattle.events.specs.declared.picking.Pick.{Pick}
 use Rattle.events.specs.Thinning.{ownEvent, isCrash, Thins, rest, Leads, begin}
-use Rattle.events.specs.Linking.{HEADS, nextOwnIn, nextCrashIn, placesFrom, placesIn, firstFrom, Linked}
+use Rattle.events.specs.Linking.{headOf, operationIn, nextOwnIn, nextCrashIn, placesFrom, placesIn}
+use Rattle.events.specs.Linking.{firstFrom, Linked}
 use Rattle.events.specs.Picking.{copied, nearer, pickFrom, pickAfter}
 use Rattle.events.proofs.Places.{atPlace, First, first-of, first-next, first-later}
 use Rattle.events.proofs.Leading.{own-no-crash, unconcerned, none-own, keep-at, skip-to, lead-to}
-use Rattle.events.proofs.Copies.{copied-frame, copied-events, copied-places, linked-event, linked-same}
+use Rattle.events.proofs.Copies.{copied-frame, copied-events, copied-places, copied-operations}
+use Rattle.events.proofs.Copies.{linked-event, linked-same}
 
 module _ (es : List Event) (m : ℕ) (few : length es ≤ 128) (within : m ≤ length es) where
   short : length (take m es) ≡ m
@@ -39,6 +42,7 @@ pub record UpTo (es : List Event) (x m : ℕ) (p : Pick) (w : List ℕ) : Type 0
   pub past : ℕ
   pub reached : past ≤ m
   pub few : p .count ≤ past
+  pub operations : (j : ℕ) → j < p .count → T (isOperation (operationIn EVENTS w j))
   pub own : p .own ≡ firstFrom (ownEvent x) past es
   pub crash : p .crash ≡ firstFrom isCrash past es
   pub leads : (kept : List Event) (places : List ℕ) → Thins x past (drop past (take m es)) kept places
@@ -46,7 +50,7 @@ pub record UpTo (es : List Event) (x m : ℕ) (p : Pick) (w : List ℕ) : Type 0
 
 -- Where the first event that names x is not among the first m events, none is kept.
 pub pick-none : {es : List Event} {w : List ℕ} {x m : ℕ} → Linked es w → x < 32 → m ≤ length es
-    → m ≤ getD w (HEADS + x) 0 → Leads x 0 (take m es) (eventsIn w 0) (placesIn w 0)
+    → m ≤ getD w (headOf x) 0 → Leads x 0 (take m es) (eventsIn w 0) (placesIn w 0)
 unfolding eventsFrom placesFrom
 pick-none {es} {w} {x} {m} linked h within none =
     let head = linked .heads x h in
@@ -73,7 +77,7 @@ module _ {es : List Event} {w : List ℕ} {x m : ℕ} (linked : Linked es w) (wi
         ) leads
 
   -- The first event that names x is copied first.
-  pub pick-begun : (first : ℕ) → x < 32 → first ≡ getD w (HEADS + x) 0 → first < m
+  pub pick-begun : (first : ℕ) → x < 32 → first ≡ getD w (headOf x) 0 → first < m
       → UpTo es x m (pickFrom first w) (copied first 0 w)
   unfolding eventsFrom placesFrom
   pick-begun first h e inside =
@@ -87,6 +91,8 @@ module _ {es : List Event} {w : List ℕ} {x m : ℕ} (linked : Linked es w) (wi
         past = suc first;
         reached = inside;
         few = omega arith;
+        operations = copied-operations w first 0 (linked .room) (omega arith) (linked .operations first (omega arith))
+            (λ j l. absurd (omega arith));
         own = linked .owns x first (omega arith) (rw head names);
         crash = linked .crashes first (omega arith);
         leads = λ kept places thins. one-more first 0 inside (omega arith) kept places
@@ -160,6 +166,8 @@ module _ {es : List Event} {w : List ℕ} {x m : ℕ} {p : Pick} (up : UpTo es x
           past = suc q;
           reached = omega arith;
           few = omega (arith, up .few);
+          operations = copied-operations w q (p .count) (up .linked .room) pick-room
+              (up .linked .operations q (omega arith)) (up .operations);
           own = up .own ∙ sym later;
           crash = up .linked .crashes q (omega arith);
           leads = next-leads q after (omega arith) (omega arith) (omega arith);
@@ -183,6 +191,8 @@ module _ {es : List Event} {w : List ℕ} {x m : ℕ} {p : Pick} (up : UpTo es x
           past = suc q;
           reached = more;
           few = omega (arith, up .few);
+          operations = copied-operations w q (p .count) (up .linked .room) pick-room
+              (up .linked .operations q (omega arith)) (up .operations);
           own = up .linked .owns x q (omega arith) names;
           crash = up .crash ∙ sym later ∙ next;
           leads = next-leads q after more (omega arith) h;

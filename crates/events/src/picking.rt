@@ -1,6 +1,6 @@
 // The events of the log that matter at a location, copied to where the search looks for events.
-use crate::logging::HEADS;
 use crate::logging::LOG;
+use crate::logging::head_of;
 use model::Location;
 use walking::scratch::EVENTS;
 ghost use Prim.Native.Nat.{_+_, _*_, _≤_, _<_};
@@ -85,8 +85,8 @@ pub fn pick_events(w: &mut [u64], x: Location, m: usize) -> usize
     requires { ⌜ x .0 < 32 ⌝ }
     ensures { λ k. ⌜ Picked (x .0) m (now (w .entry)) k (now (w .exit)) ⌝ }
 {
-    let location = x.0 as usize;
-    let first = w[HEADS + location] as usize;
+    let head = head_of(x);
+    let first = w[head] as usize;
     if m <= first {
         return 0;
     }

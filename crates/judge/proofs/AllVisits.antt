@@ -13,7 +13,7 @@ use Rattle.walking.specs.Scratch.{STEPS, eventsIn}
 use Rattle.walking.specs.Access.{OnlyIn}
 use Rattle.walking.proofs.Frames.{only-none, only-then, getD-above}
 use Rattle.walking.proofs.Events.{events-length}
-use Rattle.events.specs.Linking.{LOG, HEADS, logged, Linked}
+use Rattle.events.specs.Linking.{LOG, headOf, logged, Linked}
 use Rattle.judge.specs.Visiting.{Loaded, Visitable, Visits}
 use Rattle.judge.specs.declared.visiting.Progress.{Progress}
 use Rattle.judge.proofs.Gathering.{gathered-none}
@@ -29,10 +29,11 @@ module _ {w w' : List ℕ} (only : OnlyIn 0 LOG w w') (n : ℕ) where
         room = omega (arith, l .room, only .sized);
         few = l .few;
         events = rw (only .above) (l .events);
+        operations = λ j h. rw (getD-above only (LOG + 2 * j) (omega arith)) (l .operations j h);
         places = λ j h. rw (getD-above only (LOG + 2 * j) (omega arith)) (l .places j h);
         owns = λ x j h o. rw (getD-above only (LOG + 2 * j) (omega arith)) (l .owns x j h o);
         crashes = λ j h. rw (getD-above only (LOG + 2 * j) (omega arith)) (l .crashes j h);
-        heads = λ x h. rw (getD-above only (HEADS + x) (omega arith)) (l .heads x h);
+        heads = λ x h. rw (getD-above only (headOf x) (omega arith)) (l .heads x h);
       }
 
   pub loaded-same : {t : topology.Topology} → Loaded t n w → Loaded t n w'

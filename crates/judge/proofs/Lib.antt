@@ -1,5 +1,5 @@
 pub mod Described
-pub mod EventMachines
+pub mod KnownEvents
 pub mod Allowances
 pub mod Fitting
 pub mod Gathering

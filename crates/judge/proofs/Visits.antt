@@ -37,7 +37,7 @@ use Rattle.judge.specs.Visiting.{Visitable, Visits}
 use Rattle.judge.specs.declared.visiting.Progress.{Progress}
 use Rattle.judge.proofs.Described.{described}
 use Rattle.judge.proofs.NamedEvents.{named-take}
-use Rattle.judge.proofs.EventMachines.{machines}
+use Rattle.judge.proofs.KnownEvents.{knowns}
 use Rattle.judge.proofs.Gathering.{gathered-few, gathered-more}
 use Rattle.judge.proofs.Lists.{list-kept}
 use Rattle.judge.proofs.Extending.{Extended, kept-only, found-retimable, found-extended}
@@ -145,7 +145,8 @@ module _ {t : topology.Topology} {n x : ℕ} {p : Progress} {w : List ℕ} (can 
             room = omega (arith, room, picked .frame .sized);
             few = omega (arith, few-picked);
             short = can .visited .few;
-            machines = machines sys few-machines w₁ k kept-named;
+            known = knowns sys few-machines w₁ k kept-named
+                (picked .operations es (can .loaded .linked) (can .visited .most));
             system = sys;
             placed = placed-by kept-named;
           }

@@ -6,7 +6,7 @@ use mathlib.Core.Path.{_≡_, sym, subst}
 use mathlib.Core.Bool.{Bool, true, false, cond, _&&_}
 use lib.Dec.{T, eqb, eqb→eq}
 use Rattle.model.proofs.Tests.{by-test, ne-test, and-l, and-r}
-use Rattle.masks.specs.Sets.{In, Exactly}
+use Rattle.masks.specs.Sets.{In, everyCode, Exactly}
 
 -- Every number below n passes the test.
 unfoldable pub every : ℕ → (ℕ → Bool) → Bool
@@ -32,3 +32,8 @@ exactly m p h t l = go (p t) (eqb→eq _ _ (every-e 64 (tells m p) h t l))
     go : (b : Bool) → m / 2 ^ t % 2 ≡ cond b 1 0 → (In t m → T b) × (T b → In t m)
     go true e = (λ i. tt, λ u. e)
     go false e = (λ i. omega arith, λ u. absurd u)
+
+-- Every code is in the mask of every code.
+pub in-every : (t : ℕ) → t < 64 → In t everyCode
+unfolding every everyCode
+in-every t h = exactly everyCode (λ s. true) tt t h .1 tt

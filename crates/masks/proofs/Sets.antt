@@ -128,6 +128,14 @@ least (suc k) m h z = go (λ p. least k (m / 2) p) (m % 2) refl
         least-even m (trailingZeros k (m / 2)) e (rest (omega arith) (omega arith))
     go rest (suc b) e = least-odd m (omega arith)
 
+-- A mask that is not 0 has a code.
+below-pow : (m : ℕ) → m < 2 ^ m
+below-pow zero = omega arith
+below-pow (suc m) = omega (arith, pow-suc 2 m, below-pow m)
+
+pub in-some : (m : ℕ) → m ≢ 0 → (t : ℕ) × In t m
+in-some m z = (trailingZeros m m, least m m (below-pow m) z .0)
+
 -- Two masks have a bit in common exactly if some code is in both.
 pub meet : (k a b : ℕ) → a < 2 ^ k → (bitAnd a b ≢ 0) ↔ ((t : ℕ) × (t < k) × In t a × In t b)
 meet k a b h = (there, back)

@@ -1,5 +1,5 @@
 -- Sets of codes 0 to 63 as masks: bit t of a mask is set if code t is in the set.
-use Prim.Native.Nat.{ℕ, _≤_, _<_, _/_, _%_, _^_}
+use Prim.Native.Nat.{ℕ, _-_, _≤_, _<_, _/_, _%_, _^_}
 use mathlib.Core.Path.{_≡_}
 use mathlib.Core.Logic.{_↔_}
 use Rattle.model.specs.Cxl0.{Machine}
@@ -7,6 +7,10 @@ use Rattle.model.specs.OneLocation.{Moves}
 
 abbrev pub In : ℕ → ℕ → Type 0
 In t m = m / 2 ^ t % 2 ≡ 1
+
+-- The mask of every code.
+unfoldable pub everyCode : ℕ
+everyCode = 2 ^ 64 - 1
 
 -- Of the codes below 64, the mask has exactly those with P.
 abbrev pub Exactly : ℕ → (ℕ → Type 0) → Type 0

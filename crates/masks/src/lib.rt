@@ -11,7 +11,7 @@ ghost use mathlib.Core.Logic.{_↔_, _≢_};
 ghost use lib.Dec.{T};
 ghost use Prim.Native.Nat.{ℕ, _<_};
 ghost use Rattle.model.specs.Sharers.{has, insert, remove};
-ghost use Rattle.masks.specs.Sets.{In, Exactly, Least, Leads, OneToSix};
+ghost use Rattle.masks.specs.Sets.{In, everyCode, Exactly, Least, Leads, OneToSix};
 
 // Code c is in the set.
 pub fn contains(m: u64, c: u8) -> bool
@@ -31,7 +31,7 @@ pub fn single(c: u8) -> u64
 
 // Every code.
 pub fn all() -> u64
-    ensures { λ r. ⌜ ((t : ℕ) → t < 64 → In t r) ⌝ }
+    ensures { λ r. ⌜ r ≡ everyCode ⌝ }
 {
     0xffff_ffff_ffff_ffff
 }

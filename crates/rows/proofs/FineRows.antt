@@ -1,14 +1,14 @@
 -- What a set made by `&` or `|` has, and what a row has, by what the sets that they are made of have.
 use Prim.Native.Nat.{ℕ}
-use mathlib.Core.Path.{_≡_, sym}
+use mathlib.Core.Path.{_≡_, refl, sym}
 use mathlib.Core.Logic.{_≢_, _⊎_, inl, inr, ⊎-elim, ⊎-map}
 use mathlib.Core.Logic.{_↔_, Iff·rfl, Iff·symm, Iff·trans, Iff·and}
 use lib.Bits.{bitAnd, bitOr}
 use Rattle.model.specs.Cxl0.{Value}
 use Rattle.masks.specs.Sets.{In, Exactly}
-use Rattle.masks.proofs.Sets.{in-none, in-and, in-or}
+use Rattle.masks.proofs.Sets.{in-none, in-some, in-and, in-or}
 use Rattle.rows.specs.declared.Row.{Row}
-use Rattle.rows.specs.Rows.{Fine, RowOf}
+use Rattle.rows.specs.Rows.{Fine, Empty, anyRow, RowOf}
 
 abbrev pub row : ℕ → ℕ → Value → Row
 row a o w = record { any = a; one = o; value = w }
@@ -41,18 +41,28 @@ row-if P to rest a o any one c m h = (
       (λ p. let q = one c h .0 (p .0) in (q .1, inr (q .0, p .1))),
 )
 
--- A row with no code in `one` has the codes of `any` at every memory value.
-pub row-any : (a w : ℕ) → RowOf (λ c m. In c a) (row a 0 w)
-row-any a w c m h = (inl, ⊎-elim (λ p. p) (λ p. absurd (in-none c (p .0))))
+-- The row of a set has its codes at every memory value.
+pub fine-any : (a c m : ℕ) → In c a ↔ Fine (anyRow a) c m
+unfolding anyRow
+fine-any a c m = (inl, ⊎-elim (λ p. p) (λ p. absurd (in-none c (p .0))))
 
--- A row of the codes of a set that has exactly those with P.
-pub any-of : (a : ℕ) (P : ℕ → Type 0) (r : Row) → Exactly a P → RowOf (λ c m. In c a) r → RowOf (λ c m. P c) r
-any-of a P r p q c m h = Iff·trans (Iff·symm (p c h)) (q c m h)
+-- The row of a set that has exactly the codes with P.
+pub any-of : (a : ℕ) (P : ℕ → Type 0) (r : Row) → Exactly a P → r ≡ anyRow a → RowOf (λ c m. P c) r
+any-of a P r p e c m h = rw e (Iff·trans (Iff·symm (p c h)) (fine-any a c m))
 
--- A row with no code in `any` or `one` has no state.
-pub row-none : (rest : Row) → bitOr (rest .any) (rest .one) ≡ 0 → (c m : ℕ) → ¬ Fine rest c m
-row-none rest e c m f =
-    in-none c (rw e at (in-or (rest .any) (rest .one) c .1 (⊎-elim inl (λ j. inr (j .0)) f)))
+module _ (rest : Row) where
+  -- A row with no code in `any` or `one` has no state, and one with a code there has one.
+  pub row-none : bitOr (rest .any) (rest .one) ≡ 0 → Empty rest
+  row-none e c m f =
+      in-none c (rw e at (in-or (rest .any) (rest .one) c .1 (⊎-elim inl (λ j. inr (j .0)) f)))
+
+  pub row-some : bitOr (rest .any) (rest .one) ≢ 0 → ¬ Empty rest
+  row-some some none =
+      let code = in-some (bitOr (rest .any) (rest .one)) some in
+      ⊎-elim
+      (λ i. none (code .0) 0 (inl i))
+      (λ i. none (code .0) (rest .value) (inr (i, refl)))
+      (in-or (rest .any) (rest .one) (code .0) .0 (code .1))
 
 module _ (rest : Row) (m : Value) where
   -- The codes that a row has at its own value, and those that it has at another one.

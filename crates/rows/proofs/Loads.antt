@@ -10,8 +10,8 @@ use Rattle.masks.specs.Sets.{In, Exactly, OneToSix}
 use Rattle.masks.proofs.Sets.{in-none}
 use Rattle.masks.proofs.Codes.{has-itself, insert-fits}
 use Rattle.rows.specs.declared.Row.{Row}
-use Rattle.rows.specs.Rows.{Fine, RowOf, Closed}
-use Rattle.rows.proofs.FineRows.{row}
+use Rattle.rows.specs.Rows.{Fine, anyRow, RowOf, Closed}
+use Rattle.rows.proofs.FineRows.{row, fine-any}
 
 -- The Load line.
 abbrev Loads : Row → Machine → Value → Value → ℕ → Value → Type 0
@@ -44,8 +44,8 @@ module _ (rest : Row) (i : Machine) (u v : Value) where
       λ f. let q = copies c m h .1 f in inr (q .0, e, q .1),
     )
 
-    pub from-nothing : u ≢ v → RowOf (λ c m. In c 0) r → RowOf (Loads rest i u v) r
+    pub from-nothing : u ≢ v → r ≡ anyRow 0 → RowOf (Loads rest i u v) r
     from-nothing n none c m h = (
       ⊎-elim (λ p. absurd (stuck (p .2))) (λ p. absurd (n (p .1))),
-      λ f. absurd (in-none c (none c m h .1 f)),
+      λ f. absurd (in-none c (fine-any 0 c m .1 (rw none at f))),
     )

@@ -1,18 +1,20 @@
 -- Events by the number of their operation: their machine, whether they concern a location, and the value of
 -- its copies after them.
-use Prim.Native.Nat.{ℕ, _≤_}
+use Prim.Native.Nat.{ℕ, suc, _≤_}
+use native.Mathlib.Nat.{eq-or-lt-of-le, not-le-of-lt}
 use native.Mathlib.Omega.{arith}
 use mathlib.Core.Path.{_≡_, refl, sym, subst}
-use mathlib.Core.Logic.{_≢_}
+use mathlib.Core.Logic.{_≢_, ⊎-elim}
 use mathlib.Core.Bool.{Bool, true, false, cond, not}
-use lib.Dec.{T, eqb, eqb→eq, lit≤}
+use lib.Dec.{T, eqb, eqb→eq, leb, lit≤}
+use borrow.Author.Tests.{leb-true}
 use Rattle.model.specs.Cxl0.{Machine, Location, Value}
 use Rattle.model.specs.Cxl0.{Event, LStore, RStore, MStore, Load, LFlush, RFlush, Crash}
 use Rattle.model.specs.OneLocation.{eventAt}
-use Rattle.model.specs.Operations.{eventOf}
+use Rattle.model.specs.Operations.{isOperation, eventOf}
 use Rattle.model.specs.declared.Event as event
-use Rattle.model.proofs.Tests.{ne-test}
-use Rattle.rows.specs.Sites.{meant, machineOf, copyAfter}
+use Rattle.model.proofs.Tests.{ne-test, T→true, and-l, and-r}
+use Rattle.rows.specs.Sites.{meant, machineOf}
 
 -- P holds of the event that a test of the number picks.
 choose : (P : ℕ → Event → Type 0) (op n : ℕ) {e f : Event} → P n e → (op ≢ n → P op f)
@@ -38,6 +40,29 @@ numbered e P p₁ p₂ p₃ p₄ p₅ p₆ q =
     choose P op 4 p₄ (λ n₄. choose P op 5 p₅ (λ n₅. choose P op 6 p₆ (λ n₆.
     q op (λ l h. omega arith)))))))
 
+-- The operations have the numbers 1 to 7.
+pub operation-range : {op : ℕ} → T (isOperation op) → (1 ≤ op) × (op ≤ 7)
+unfolding isOperation
+operation-range {op} is =
+    let low = leb 1 op in
+    let high = leb op 7 in
+    (leb-true 1 op (T→true {b = low} (and-l low high is)), leb-true op 7 (T→true {b = high} (and-r low high is)))
+
+-- So nothing is left for the last arm of a match, after those for 1 to 7 and 0.
+next-key : {k op : ℕ} → k ≤ op → op ≢ k → suc k ≤ op
+next-key h n = ⊎-elim (λ e. absurd (n (sym e))) (λ l. l) (eq-or-lt-of-le h)
+
+abbrev Unmatched : ℕ → Type 0
+Unmatched op =
+    (((((((Unit {0} × (op ≢ 1)) × (op ≢ 2)) × (op ≢ 3)) × (op ≢ 4)) × (op ≢ 5)) × (op ≢ 6)) × (op ≢ 7)) × (op ≢ 0)
+
+pub no-other : {op : ℕ} → T (isOperation op) → Unmatched op → ⊥
+no-other {op} is ((((((((_, n₁), n₂), n₃), n₄), n₅), n₆), n₇), n₀) =
+    let range = operation-range is in
+    let past : 8 ≤ op =
+    next-key (next-key (next-key (next-key (next-key (next-key (next-key (range .0) n₁) n₂) n₃) n₄) n₅) n₆) n₇ in
+    not-le-of-lt past (range .1)
+
 -- A number in the range is none of the others.
 inside : {A B C : Type 0} → A → B → (A → B → ⊥) → C
 inside a b n = absurd (n a b)
@@ -46,39 +71,10 @@ module _ (e : event.Event) where
   pub machine-of : machineOf (meant e) ≡ e .machine .0
   machine-of = numbered e (λ op f. machineOf f ≡ e .machine .0) refl refl refl refl refl refl (λ op n. refl)
 
-  -- Operations 1 to 6 concern their own location, and every other number is a crash.
-  pub at-location : (x : Location) → 1 ≤ e .operation → e .operation ≤ 6
-      → eventAt x (meant e) ≡ eqb x (e .location .0)
-  unfolding eventAt
-  at-location x =
-      numbered e (λ op f. 1 ≤ op → op ≤ 6 → eventAt x f ≡ eqb x (e .location .0))
-      (λ l h. refl) (λ l h. refl) (λ l h. refl) (λ l h. refl) (λ l h. refl) (λ l h. refl)
-      (λ op n l h. absurd (n l h))
-
+  -- A number that is not 1 to 6 is a crash's.
   pub at-crash : (1 ≤ e .operation → e .operation ≤ 6 → ⊥) → meant e ≡ Crash (e .machine .0)
   at-crash =
       numbered e (λ op f. (1 ≤ op → op ≤ 6 → ⊥) → f ≡ Crash (e .machine .0))
       (inside (lit≤ tt) (lit≤ tt)) (inside (lit≤ tt) (lit≤ tt)) (inside (lit≤ tt) (lit≤ tt))
       (inside (lit≤ tt) (lit≤ tt)) (inside (lit≤ tt) (lit≤ tt)) (inside (lit≤ tt) (lit≤ tt))
-      (λ op n m. refl)
-
-  -- Operations 1 and 2, LStore and RStore, give the copies of their location their value, and no other one
-  -- changes the value of copies.
-  pub copied : (x : Location) (u : Value) → 1 ≤ e .operation → e .operation ≤ 2
-      → copyAfter x u (meant e) ≡ cond (eqb x (e .location .0)) (e .value) u
-  unfolding copyAfter
-  copied x u =
-      numbered e (λ op f. 1 ≤ op → op ≤ 2 → copyAfter x u f ≡ cond (eqb x (e .location .0)) (e .value) u)
-      (λ l h. refl) (λ l h. refl)
-      (λ l h. absurd (omega arith)) (λ l h. absurd (omega arith))
-      (λ l h. absurd (omega arith)) (λ l h. absurd (omega arith))
-      (λ op n l h. absurd (n l (omega arith)))
-
-  pub kept : (x : Location) (u : Value) → (1 ≤ e .operation → e .operation ≤ 2 → ⊥)
-      → copyAfter x u (meant e) ≡ u
-  unfolding copyAfter
-  kept x u =
-      numbered e (λ op f. (1 ≤ op → op ≤ 2 → ⊥) → copyAfter x u f ≡ u)
-      (inside (lit≤ tt) (lit≤ tt)) (inside (lit≤ tt) (lit≤ tt))
-      (λ n. refl) (λ n. refl) (λ n. refl) (λ n. refl)
       (λ op n m. refl)

@@ -9,14 +9,18 @@ use Rattle.model.specs.OneLocation.{Local, possibleAt, nextAt, HasRunAt}
 use Rattle.model.specs.OneLocation.{Reaches}
 use Rattle.model.proofs.SilentSteps.{normal-form, silently-bound}
 use Rattle.model.proofs.Gaps.{has-run-nil, has-run-cons}
-use Rattle.masks.specs.Sets.{In}
+use Rattle.masks.proofs.Constants.{in-every}
 use Rattle.rows.specs.declared.Row.{Row}
-use Rattle.rows.specs.Rows.{state, Fine, Right, Before, Gap}
+use Rattle.rows.specs.Rows.{state, Fine, anyRow, lastRow, Right, Closed, Before, Gap}
 
--- After the last event every state is right.
-pub right-nil : (sys : Topology) (x : Location) (u : Value) (row : Row)
-    → ((c : ℕ) → c < 64 → In c (row .any)) → Right sys x [] u row
-right-nil sys x u row all c m h = (λ r. inl (all c h), λ f. has-run-nil sys x (state c u m))
+-- The last row is right for no events, whatever the copies, and closed.
+pub last-right : (sys : Topology) (x : Location) (u : Value) → Right sys x [] u lastRow
+unfolding anyRow
+last-right sys x u c m h = (λ r. inl (in-every c h), λ f. has-run-nil sys x (state c u m))
+
+pub last-closed : (u : Value) → Closed u lastRow
+unfolding anyRow
+last-closed u f c h z = in-every c h
 
 -- A right row answers for every state with its value of the copies.
 right-at : (sys : Topology) (x : Location) (es : List Event) (u : Value) (row : Row) → Right sys x es u row

@@ -6,9 +6,8 @@ use mathlib.Core.Logic.{_≢_, _⊎_, _↔_}
 use mathlib.Core.List.{List}
 use lib.Dec.{T}
 use Rattle.model.specs.Cxl0.{Machine, Location, Value, Topology, Event, event}
-use Rattle.model.specs.OneLocation.{Local, possibleAt, nextAt, HasRunAt}
-use Rattle.model.specs.OneLocation.{Reaches}
-use Rattle.masks.specs.Sets.{In}
+use Rattle.model.specs.OneLocation.{Local, possibleAt, nextAt, HasRunAt, Reaches}
+use Rattle.masks.specs.Sets.{In, everyCode}
 use Rattle.rows.specs.declared.Row.{Row}
 
 -- A state of the location at hand.
@@ -18,6 +17,18 @@ state c u m = record { code = c; copy = u; memory = m }
 -- Code c with memory value m is in the row.
 abbrev pub Fine : Row → ℕ → Value → Type 0
 Fine row c m = In c (row .any) ⊎ (In c (row .one) × (m ≡ row .value))
+
+-- The row has no state.
+abbrev pub Empty : Row → Type 0
+Empty row = (c m : ℕ) → ¬ Fine row c m
+
+-- The codes of a set, with every memory value.
+unfoldable pub anyRow : ℕ → Row
+anyRow any = record { any = any; one = 0; value = 0 }
+
+-- After the last event: every code, with every memory value.
+abbrev pub lastRow : Row
+lastRow = anyRow everyCode
 
 -- The row has exactly the states with P.
 abbrev pub RowOf : (ℕ → Value → Type 0) → Row → Type 0

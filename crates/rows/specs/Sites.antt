@@ -3,10 +3,10 @@
 use mathlib.Core.Path.{_≡_}
 use mathlib.Core.Bool.{cond, _&&_}
 use mathlib.Core.List.{List, [], _∷_}
-use lib.Dec.{eqb}
+use lib.Dec.{T, eqb}
 use Rattle.model.specs.Cxl0.{Machine, Location, Value, Topology, owner, initial, clears}
 use Rattle.model.specs.Cxl0.{Event, LStore, RStore, MStore, Load, LFlush, RFlush, Crash}
-use Rattle.model.specs.Operations.{eventOf}
+use Rattle.model.specs.Operations.{isOperation, eventOf}
 use Rattle.model.specs.declared.Event as event
 use Rattle.masks.specs.Sets.{OneToSix}
 use Rattle.rows.specs.declared.Site.{Site}
@@ -14,6 +14,11 @@ use Rattle.rows.specs.declared.Site.{Site}
 -- The event that the program's struct stands for.
 abbrev pub meant : event.Event → Event
 meant e = eventOf (e .operation) (e .machine .0) (e .location .0) (e .value)
+
+-- The operation is one of the seven, and the machine one of 1 to 6: so it is with the events of an accepted log.
+pub record Known (e : event.Event) : Type 0 where
+  pub operation : T (isOperation (e .operation))
+  pub machine : OneToSix (e .machine .0)
 
 -- The site describes its location in a system of at most six machines.
 pub record Describes (sys : Topology) (s : Site) : Type 0 where

@@ -1,7 +1,9 @@
 // Rows, line by line of the table of specs/Lines.antt. With `rest` the row after an event, a line's call
 // gives the row before it, and `gap_row` closes that under the silent steps of the gap before the event.
 //
-// Callers see to it that a machine's number is 1 to 6, that a code is below 64, and that `rest` is closed.
+// Callers see to it that a machine's number is 1 to 6, that a code is below 64, that `rest` is closed, and that an
+// event is known: its operation is 1 LStore, 2 RStore, 3 MStore, 4 Load, 5 LFlush, 6 RFlush or 7 crash. The reader has
+// refused every other number, so that no event comes to the arms of these.
 use masks::all;
 use masks::all_but_empty;
 use masks::alone;
@@ -17,16 +19,15 @@ use model::Machine;
 ghost use mathlib.Core.Path.{_≡_};
 ghost use mathlib.Core.Bool.{true, cond, not};
 ghost use mathlib.Core.Logic.{_↔_, _≢_};
-ghost use mathlib.Core.List.{[]};
 ghost use lib.Dec.{T};
 ghost use Prim.Native.Nat.{ℕ, _<_};
 ghost use Rattle.model.specs.Cxl0.{Topology, Load};
 ghost use Rattle.model.specs.Sharers.{has, insert, remove};
 ghost use Rattle.model.specs.OneLocation.{eventAt};
 ghost use Rattle.masks.specs.Sets.{In, Exactly, OneToSix};
-ghost use Rattle.rows.specs.Rows.{Fine, RowOf, Right, Closed, Gap};
+ghost use Rattle.rows.specs.Rows.{Fine, Empty, anyRow, lastRow, RowOf, Closed, Gap};
 ghost use Rattle.rows.specs.Lines.{Line};
-ghost use Rattle.rows.specs.Sites.{meant, Describes, copyAfter};
+ghost use Rattle.rows.specs.Sites.{meant, Known, Describes, copyAfter};
 ghost use Rattle.rows.specs.Steps.{Stepped};
 
 // From which states the rest of a log can be finished, where copies have one given value: codes of `any` with every
@@ -80,14 +81,14 @@ pub fn fine(row: Row, c: u8, m: u32) -> bool
 
 // The row has no state.
 pub fn is_empty(row: Row) -> bool
-    ensures { λ r. ⌜ ((r ≡ true) → (c m : ℕ) → ¬ Fine row c m) ⌝ }
+    ensures { λ r. ⌜ (r ≡ true) ↔ Empty row ⌝ }
 {
     (row.any | row.one) == 0
 }
 
 // The codes of a set, with every memory value.
 fn any_row(any: u64) -> Row
-    ensures { λ r. ⌜ RowOf (λ c m. In c any) r ⌝ }
+    ensures { λ r. ⌜ r ≡ anyRow any ⌝ }
 {
     Row {
         any: any,
@@ -98,14 +99,9 @@ fn any_row(any: u64) -> Row
 
 // After the last event every state is fine.
 pub fn last_row() -> Row
-    ensures right { λ r. ⌜ ((sys : Topology) (x u : ℕ) → Right sys x [] u r) ⌝ }
-    ensures closed { λ r. ⌜ ((u : ℕ) → Closed u r) ⌝ }
+    ensures { λ r. ⌜ r ≡ lastRow ⌝ }
 {
-    Row {
-        any: all(),
-        one: 0,
-        value: 0,
-    }
+    any_row(all())
 }
 
 // LStore and RStore, which leave a copy at one machine, whose code is t.
@@ -217,34 +213,52 @@ pub fn gap_row(owner: Machine, u: u32, inner: Row) -> Row
 
 // The event is one of the site's location, or a crash.
 pub fn concerned(site: Site, e: Event) -> bool
+    requires { ⌜ Known e ⌝ }
     ensures { λ r. ⌜ r ≡ eventAt (site .location .0) (meant e) ⌝ }
 {
     let operation = e.operation;
+    let own = site.location.0 == e.location.0;
     match operation {
-        1..=6 => site.location.0 == e.location.0,
-        _ => true,
+        1 => own,
+        2 => own,
+        3 => own,
+        4 => own,
+        5 => own,
+        6 => own,
+        7 => true,
+        0 => false,
+        8..=255 => false,
     }
 }
 
 // The value of the copies after an event, when it was u before.
 pub fn copy_after(site: Site, u: u32, e: Event) -> u32
+    requires { ⌜ Known e ⌝ }
     ensures { λ r. ⌜ r ≡ copyAfter (site .location .0) u (meant e) ⌝ }
 {
     let operation = e.operation;
+    let stored = if site.location.0 == e.location.0 {
+        e.value
+    } else {
+        u
+    };
     match operation {
-        1..=2 => if site.location.0 == e.location.0 {
-            e.value
-        } else {
-            u
-        },
-        _ => u,
+        1 => stored,
+        2 => stored,
+        3 => u,
+        4 => u,
+        5 => u,
+        6 => u,
+        7 => u,
+        0 => u,
+        8..=255 => u,
     }
 }
 
 // The row before an event, without the silent steps before it, when copies have the value u before it.
 pub fn row_before(site: Site, e: Event, u: u32, rest: Row) -> Row
     requires { ⌜ OneToSix (site .owner .0) ⌝ }
-    requires { ⌜ OneToSix (e .machine .0) ⌝ }
+    requires { ⌜ Known e ⌝ }
     requires { ⌜ Closed (copyAfter (site .location .0) u (meant e)) rest ⌝ }
     ensures { λ r. ⌜ ((sys : Topology) → Describes sys site
         → RowOf (λ c m. Line sys (site .location .0) (meant e) u rest c m) r) ⌝ }
@@ -258,7 +272,9 @@ pub fn row_before(site: Site, e: Event, u: u32, rest: Row) -> Row
         4 => load_row(rest, i, u, e.value),
         5 => l_flush_row(rest, i),
         6 => r_flush_row(rest),
-        _ => crash_row(rest, i, (site.owner.0 == i.0) & site.volatile, site.initial),
+        7 => crash_row(rest, i, (site.owner.0 == i.0) & site.volatile, site.initial),
+        0 => rest,
+        8..=255 => rest,
     }
 }
 
@@ -266,7 +282,7 @@ pub fn row_before(site: Site, e: Event, u: u32, rest: Row) -> Row
 // the value u before it.
 pub fn row_step(site: Site, e: Event, u: u32, rest: Row) -> Row
     requires { ⌜ OneToSix (site .owner .0) ⌝ }
-    requires { ⌜ OneToSix (e .machine .0) ⌝ }
+    requires { ⌜ Known e ⌝ }
     requires { ⌜ Closed (copyAfter (site .location .0) u (meant e)) rest ⌝ }
     ensures { λ r. ⌜ Stepped site (meant e) u rest r ⌝ }
 {

@@ -5,19 +5,20 @@ use native.Mathlib.Decide.{decLe}
 use native.Mathlib.Omega.{arith}
 use mathlib.Core.Path.{_≡_, refl, sym, ap, _∙_, subst}
 use mathlib.Core.Logic.{⊎-elim}
-use mathlib.Core.List.{List, []}
+use mathlib.Core.List.{List}
 use lib.ListN.{drop}
-use Rattle.model.specs.Cxl0.{Location, Value, Topology}
+use Rattle.model.specs.Cxl0.{Location}
 use Rattle.rows.specs.declared.Row.{Row}
 use Rattle.rows.specs.declared.Site.{Site}
-use Rattle.rows.specs.Rows.{Right, Closed}
+use Rattle.rows.specs.Rows.{lastRow}
 use Rattle.rows.specs.Sites.{copyAfter}
 use Rattle.rows.specs.Steps.{Stepped}
+use Rattle.rows.proofs.Rows.{last-right, last-closed}
 use Rattle.walking.specs.Scratch.{ROWS, STEPS, eventIn, eventsIn, rowIn, copyIn}
 use Rattle.walking.specs.Access.{MOST, RowPut}
 use Rattle.walking.specs.Passes.{Copies, Answers, Ready, Steppable, OnlyRows}
 use Rattle.walking.proofs.Frames.{only-none, only-then, only-wider, getD-below, getD-above}
-use Rattle.walking.proofs.Events.{event-same, events-drop, events-drop-all, copies-suc}
+use Rattle.walking.proofs.Events.{struct-same, event-same, events-drop, events-drop-all, copies-suc}
 
 -- ---- what a row leaves as it was
 
@@ -63,18 +64,16 @@ pub record Written (s : Site) (m t : ℕ) (w w' : List ℕ) (row : Row) : Type 0
   pub rows : (d : ℕ) → t < d → d ≤ m → From s m w d (rowIn w' d)
   pub here : From s m w t row
 
--- It begins with a row that is right for no events.
-pub written-none : (s : Site) (m : ℕ) (w : List ℕ) {row : Row}
-    → ((sys : Topology) (x : Location) (u : Value) → Right sys x [] u row) → ((u : Value) → Closed u row)
-    → Written s m m w w row
-written-none s m w right closed =
+-- It begins with the last row.
+pub written-none : (s : Site) (m : ℕ) (w : List ℕ) → Written s m m w w lastRow
+written-none s m w =
     record {
       bound = le-refl m;
       frame = rows-none w;
       rows = λ d h l. absurd (omega arith);
       here = record {
-        closed = closed (copyIn w m);
-        right = λ sys d. rw (events-drop-all w m) (right sys (s .location .0) (copyIn w m));
+        closed = last-closed (copyIn w m);
+        right = λ sys d. rw (events-drop-all w m) (last-right sys (s .location .0) (copyIn w m));
       };
     }
 
@@ -117,7 +116,7 @@ module _ {s : Site} {m t : ℕ} {w w' w'' : List ℕ} {row : Row} (ready : Ready
           room = omega (arith, ready .room, frame-put .frame .sized);
           few = omega (arith, ready .few, below);
           owner = ready .owner;
-          machine = rw same (ready .machines d below);
+          known = rw (struct-same (frame-put .frame) d (omega (arith, ready .few, written .bound))) (ready .known d below);
           closed = rw (frame-put .copies d, same, after) (rest .closed);
         }
 

@@ -15,17 +15,18 @@ use Rattle.model.specs.OneLocation.{startAt, eventAt, possibleAt}
 use Rattle.masks.specs.Sets.{OneToSix}
 use Rattle.rows.specs.declared.Site.{Site}
 use Rattle.rows.specs.Rows.{state}
-use Rattle.rows.specs.Sites.{Describes, machineOf, copyAfter, copyFrom}
+use Rattle.rows.specs.Sites.{Known, Describes, machineOf, copyAfter, copyFrom}
 use Rattle.rows.proofs.RowSteps.{next-fits}
 use Rattle.walking.specs.declared.Place.{Place}
 use Rattle.walking.specs.Scratch.{ROWS, STEPS, PLACES, PLACES-END}
 use Rattle.walking.specs.Scratch.{eventIn, eventsFrom, eventsIn, copyIn, placeIn}
-use Rattle.walking.specs.Access.{MOST, OnlyIn, CopyPut, PlacePut}
+use Rattle.walking.specs.Access.{MOST, OnlyIn, structIn, CopyPut, PlacePut}
 use Rattle.walking.specs.Passes.{Copies, Ready}
 use Rattle.walking.specs.Places.{codeAfter, placeAfter}
 use Rattle.walking.specs.Trails.{RunsTo}
 use Rattle.walking.proofs.Frames.{only-then, only-wider, getD-below}
-use Rattle.walking.proofs.Events.{events-suc, events-length, copies-suc, event-same, events-same}
+use Rattle.walking.proofs.Events.{events-suc, events-length, copies-suc, struct-same, event-same, events-same}
+use Rattle.walking.proofs.Events.{known-machine}
 use Rattle.walking.proofs.Trails.{runsTo-none, runsTo-cons}
 use Rattle.walking.proofs.Turns.{next-state, elsewhere-runs}
 use Rattle.search.specs.declared.explaining.Onward.{Onward}
@@ -224,12 +225,12 @@ module _ {s : Site} {t : ℕ} {p : Place} {w w' w'' : List ℕ} {v : Value} (go 
   copy-put d h =
       copy-below (copy .frame) d (omega arith) ∙ copy-below (put .frame) d (omega (arith, few-events))
 
-  -- The events up to event t are by machines 1 to 6.
-  machines-put : (j : ℕ) → j < suc t → OneToSix (machineOf (eventIn w'' j))
-  machines-put j l =
+  -- The events up to event t are known.
+  known-put : (j : ℕ) → j < suc t → Known (structIn w'' j)
+  known-put j l =
       let upto : j ≤ t = omega arith in
-      rw (event-same frame-put j (omega (arith, few-events)))
-      (⊎-elim (λ e. rw e (go .machine)) (λ h. go .ready .machines j h) (eq-or-lt-of-le upto))
+      rw (struct-same frame-put j (omega (arith, few-events)))
+      (⊎-elim (λ e. rw e (go .known)) (λ h. go .ready .known j h) (eq-or-lt-of-le upto))
 
   -- The copies after the event are those that it leaves.
   pub begun : v ≡ copyAfter (s .location .0) (copyIn w t) (eventIn w t) → Begun s t p w w''
@@ -243,7 +244,7 @@ module _ {s : Site} {t : ℕ} {p : Place} {w w' w'' : List ℕ} {v : Value} (go 
             room = omega (arith, go .ready .room, frame-put .sized);
             few = few-events;
             owner = go .ready .owner;
-            machines = machines-put;
+            known = known-put;
             copies = copies-put;
           };
           place = place-same rows-put t ∙ put .stored;
@@ -323,7 +324,7 @@ module _ {s : Site} {t : ℕ} {p : Place} {w w' : List ℕ} (go : Continuable s 
           let sys = go .system in
           let d = go .describes in
           let own : OneToSix (owner sys x) = rw (d .owned) (d .machine) in
-          let machine : OneToSix (machineOf e) = rw read (go .machine) in
+          let machine : OneToSix (machineOf e) = rw read (known-machine w t (go .known)) in
           rw (next-state sys s d e here (p .code) u (p .memory)) at
           (next-fits sys x own e machine (state (p .code) u (p .memory)) (continuable-fits go))
 

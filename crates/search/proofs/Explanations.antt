@@ -21,7 +21,7 @@ use Rattle.walking.proofs.Frames.{only-wider}
 use Rattle.search.specs.declared.explaining.Onward.{Onward}
 use Rattle.search.specs.Paths.{Leading, Path, start, Based, Kept, Continuable, Onwards}
 use Rattle.search.specs.Paths.{Explainable, Explained}
-use Rattle.search.proofs.Keeping.{kept-none, kept-then, kept-rows, event-kept, events-kept}
+use Rattle.search.proofs.Keeping.{kept-none, kept-then, kept-rows, struct-kept, events-kept}
 use Rattle.search.proofs.Schedules.{own-steps, schedules}
 use Rattle.search.proofs.Paths.{path-led}
 
@@ -112,12 +112,11 @@ module _ (s : Site) (k count : ℕ) (w : List ℕ) (can : Explainable s k count 
             room = omega (arith, can .room, e .kept .sized);
             few = omega (arith, few);
             owner = d .machine;
-            machines = λ j l. rw (event-kept (e .kept) j (omega (arith, few)))
-                (can .machines j (omega arith));
+            known = λ j l. rw (struct-kept (e .kept) j (omega (arith, few))) (can .known j (omega arith));
             copies = e .copies;
           };
           few = few;
-          machine = rw (event-kept (e .kept) t few) (can .machines t h);
+          known = rw (struct-kept (e .kept) t few) (can .known t h);
           base = STEPS + count;
           based = based e (can .short);
           system = can .system;

@@ -5,10 +5,10 @@ use native.Mathlib.Omega.{arith}
 use mathlib.Core.Path.{_≡_, refl, sym, ap, _∙_}
 use mathlib.Core.List.{List}
 use lib.ListN.{take, drop}
-use Rattle.walking.specs.Scratch.{ROWS, STEPS, PLACES-END, eventIn, eventsIn}
-use Rattle.walking.specs.Access.{MOST, OnlyIn}
+use Rattle.walking.specs.Scratch.{ROWS, STEPS, PLACES-END, eventsIn}
+use Rattle.walking.specs.Access.{MOST, OnlyIn, structIn}
 use Rattle.walking.proofs.Frames.{only-wider}
-use Rattle.walking.proofs.Events.{event-same, events-same}
+use Rattle.walking.proofs.Events.{struct-same, events-same}
 use Rattle.walking.proofs.Segments.{words-from}
 use Rattle.search.specs.Paths.{Kept}
 
@@ -56,8 +56,8 @@ module _ {base : ℕ} {w w' : List ℕ} (kept : Kept base w w') where
   between : OnlyIn ROWS PLACES-END w w'
   between = record { sized = kept .sized; below = kept .events; above = kept .above }
 
-  pub event-kept : (j : ℕ) → j < MOST → eventIn w' j ≡ eventIn w j
-  event-kept j h = event-same between j h
+  pub struct-kept : (j : ℕ) → j < MOST → structIn w' j ≡ structIn w j
+  struct-kept j h = struct-same between j h
 
   pub events-kept : (m : ℕ) → m ≤ MOST → eventsIn w' m ≡ eventsIn w m
   events-kept m h = events-same between m h

@@ -4,7 +4,7 @@ use native.Mathlib.Omega.{arith}
 use mathlib.Core.List.{List}
 use Rattle.rows.specs.declared.Site.{Site}
 use Rattle.walking.specs.Passes.{Ready, OnlyRows}
-use Rattle.walking.proofs.Events.{event-same, events-same}
+use Rattle.walking.proofs.Events.{struct-same, events-same}
 
 pub ready-kept : {s : Site} {m : ℕ} {w w' : List ℕ} → Ready s m w → OnlyRows w w' → Ready s m w'
 ready-kept ready only =
@@ -12,7 +12,7 @@ ready-kept ready only =
       room = omega (arith, ready .room, only .frame .sized);
       few = ready .few;
       owner = ready .owner;
-      machines = λ j l. rw (event-same (only .frame) j (omega (arith, ready .few))) (ready .machines j l);
+      known = λ j l. rw (struct-same (only .frame) j (omega (arith, ready .few))) (ready .known j l);
       copies = λ t l. rw (only .copies t, events-same (only .frame) t (omega (arith, ready .few)))
           (ready .copies t l);
     }

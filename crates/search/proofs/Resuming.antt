@@ -21,7 +21,7 @@ use Rattle.walking.specs.Walks.{Standing, Turned}
 use Rattle.walking.proofs.Frames.{only-none, only-then, only-wider}
 use Rattle.walking.proofs.Events.{events-drop}
 use Rattle.walking.proofs.Stored.{stored-only}
-use Rattle.walking.proofs.StepArea.{event-kept, events-kept, row-kept, copy-kept}
+use Rattle.walking.proofs.StepArea.{struct-kept, event-kept, events-kept, row-kept, copy-kept}
 use Rattle.search.specs.Paths.{Path, Based, Resumable, Resumed}
 use Rattle.search.proofs.Backward.{copy-next}
 use Rattle.search.proofs.Paths.{path-led, path-end, path-place, path-turned}
@@ -99,7 +99,7 @@ module _ (s : Site) (from m : ℕ) (w : List ℕ) (can : Resumable s from m w) w
               room = room-put;
               few = few;
               owner = can .ready .owner;
-              machine = rw event-put (can .ready .machines t h);
+              known = rw (struct-kept frame-put low-from t few) (can .ready .known t h);
               closed = rw (copy-after, row-put) (next .closed);
             };
             space = omega (arith, resuming-short, few);

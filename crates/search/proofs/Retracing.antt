@@ -3,7 +3,7 @@
 use Prim.Native.Nat.{ℕ, zero, suc, _+_, _-_, _≤_, _<_}
 use native.Mathlib.Omega.{arith}
 use mathlib.Core.Path.{_≡_, ap, _∙_, subst}
-use mathlib.Core.List.{List, [], _∷_}
+use mathlib.Core.List.{List, _∷_}
 use lib.ListN.{length, drop}
 use Rattle.model.specs.Cxl0.{Location, Value, Topology, owner, Event, event}
 use Rattle.model.specs.OneLocation.{Local, nextAt, HasRunAt}
@@ -12,7 +12,7 @@ use Rattle.model.proofs.Gaps.{has-run-cons}
 use Rattle.masks.specs.Sets.{OneToSix}
 use Rattle.rows.specs.declared.Row.{Row}
 use Rattle.rows.specs.declared.Site.{Site}
-use Rattle.rows.specs.Rows.{state, Fine, Right, Closed}
+use Rattle.rows.specs.Rows.{state, Fine, Empty, lastRow}
 use Rattle.rows.specs.Steps.{Stepped}
 use Rattle.rows.specs.Sites.{Describes, machineOf, copyAfter}
 use Rattle.rows.proofs.RowSteps.{next-copy, next-fits}
@@ -20,7 +20,7 @@ use Rattle.walking.specs.Scratch.{ROWS, STEPS, PLACES, eventIn, eventsIn, copyI
 use Rattle.walking.specs.Access.{WORDS, MOST, OnlyIn, RowPut}
 use Rattle.walking.specs.Passes.{OnlyRows}
 use Rattle.walking.proofs.Frames.{getD-above}
-use Rattle.walking.proofs.Events.{events-same, events-drop}
+use Rattle.walking.proofs.Events.{known-machine, events-same, events-drop}
 use Rattle.search.specs.Paths.{Retraceable, Retraced, RunsFrom}
 use Rattle.search.proofs.Backward.{Written, From, written-none, written-more, copy-next}
 
@@ -44,11 +44,8 @@ pub record Retracing (s : Site) (m t : ℕ) (w w' : List ℕ) (row : Row) : Type
   pub without : t < m → ¬ HasPlace w t row
 
 -- It begins behind the last event.
-pub retracing-none : (s : Site) (m : ℕ) (w : List ℕ) {row : Row}
-    → ((sys : Topology) (x : Location) (u : Value) → Right sys x [] u row) → ((u : Value) → Closed u row)
-    → Retracing s m m w w row
-retracing-none s m w right closed =
-    record { written = written-none s m w right closed; without = λ h. absurd (omega arith) }
+pub retracing-none : (s : Site) (m : ℕ) (w : List ℕ) → Retracing s m m w w lastRow
+retracing-none s m w = record { written = written-none s m w; without = λ h. absurd (omega arith) }
 
 module _ {s : Site} {m : ℕ} {w : List ℕ} (able : Retraceable s m w) where
   -- There is room for row t.
@@ -145,13 +142,13 @@ module _ {s : Site} {m : ℕ} {w : List ℕ} (able : Retraceable s m w) (sys : T
       let f = run-leads run d (omega arith) in
       let r = rw (events-drop w d m h) at (f .3) in
       let g = run-passes sys x own (eventIn w d) (drop (suc d) (eventsIn w m)) (copyIn w d)
-      (able .ready .machines d h) (f .0) (f .1) (f .2) r in
+      (known-machine w d (able .ready .known d h)) (f .0) (f .1) (f .2) r in
       (g .0, g .1, g .2, rw (copy-next x m w (able .ready .copies) d h) at (g .3))
 
 module _ {s : Site} {m : ℕ} {w : List ℕ} (able : Retraceable s m w) where
   -- A row without a state ends the pass: there is no run from the first place.
   pub retraced-empty : {d : ℕ} {w' : List ℕ} {row : Row} → Written s m d w w' row
-      → ((c n : ℕ) → ¬ Fine row c n) → Retraced s m w m w'
+      → Empty row → Retraced s m w m w'
   retraced-empty {d} written empty =
       record {
         frame = written .frame;

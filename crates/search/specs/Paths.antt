@@ -11,13 +11,12 @@ use Rattle.model.specs.Cxl0.{Topology, Event}
 use Rattle.model.specs.Schedule.{Step, weave, inOrder}
 use Rattle.model.specs.OneLocation.{Local, HasRunAt, startAt}
 use Rattle.model.specs.Words.{stepOfWord}
-use Rattle.masks.specs.Sets.{OneToSix}
 use Rattle.rows.specs.declared.Site.{Site}
 use Rattle.rows.specs.Rows.{state}
-use Rattle.rows.specs.Sites.{Describes, machineOf, copyFrom}
+use Rattle.rows.specs.Sites.{Known, Describes, copyFrom}
 use Rattle.walking.specs.declared.Place.{Place}
-use Rattle.walking.specs.Scratch.{ROWS, STEPS, SORTED, PLACES-END, eventIn, eventsIn, rowIn, copyIn, placeIn}
-use Rattle.walking.specs.Access.{WORDS, MOST, OnlyIn}
+use Rattle.walking.specs.Scratch.{ROWS, STEPS, SORTED, PLACES-END, eventsIn, rowIn, copyIn, placeIn}
+use Rattle.walking.specs.Access.{WORDS, MOST, OnlyIn, structIn}
 use Rattle.walking.specs.Passes.{Copies, Answers, Fits, Ready, OnlyRows}
 use Rattle.walking.specs.Scratch.{wordsAt}
 use Rattle.walking.specs.Trails.{RunsTo}
@@ -115,11 +114,11 @@ pub record Stuck (s : Site) (t : ℕ) (p : Place) (w : List ℕ) : Type 0 where
   pub system : Topology
   pub describes : Describes system s
 
--- The walk stands at p after t events, and there are the copies up to event t.
+-- The walk stands at p after t events, there are the copies up to event t, and that is known.
 pub record Continuable (s : Site) (t : ℕ) (p : Place) (w : List ℕ) : Type 0 where
   pub ready : Ready s t w
   pub few : t < MOST
-  pub machine : OneToSix (machineOf (eventIn w t))
+  pub known : Known (structIn w t)
   pub base : ℕ
   pub based : Based s base w t p
   pub system : Topology
@@ -134,12 +133,12 @@ pub record Onwards (s : Site) (t : ℕ) (p : Place) (w : List ℕ) (r : Onward) 
 
 -- ---- all events
 
--- The area has k events at the site, which names a location of some system, and a list of `count` steps.
+-- The area has k known events at the site, which names a location of some system, and a list of `count` steps.
 pub record Explainable (s : Site) (k count : ℕ) (w : List ℕ) : Type 0 where
   pub room : WORDS ≤ length w
   pub few : k ≤ MOST
   pub short : count ≤ 256
-  pub machines : (j : ℕ) → j < k → OneToSix (machineOf (eventIn w j))
+  pub known : (j : ℕ) → j < k → Known (structIn w j)
   pub system : Topology
   pub placed : Placed system s (eventsIn w k)
 

@@ -2,7 +2,8 @@
 // silent step. For one that is not, the rows before it say from which earlier place the walk can go on so that it is;
 // if from none, the events up to it have no run.
 //
-// Callers see to it that the scratch area has at least 4,096 words, at most 129 events and machines 1 to 6.
+// Callers see to it that the scratch area has at least 4,096 words and at most 129 events, and that these are known, so
+// that none comes to the arms of refused operations.
 use crate::passes::retrace;
 use model::Event;
 use rows::Site;
@@ -25,9 +26,8 @@ ghost use mathlib.Core.Logic.{_↔_};
 ghost use lib.Dec.{T};
 ghost use Rattle.model.specs.Cxl0.{Topology, event};
 ghost use Rattle.model.specs.OneLocation.{eventAt, possibleAt};
-ghost use Rattle.masks.specs.Sets.{OneToSix};
 ghost use Rattle.rows.specs.Rows.{state};
-ghost use Rattle.rows.specs.Sites.{meant};
+ghost use Rattle.rows.specs.Sites.{meant, Known};
 ghost use Rattle.search.specs.Paths.{Resumable, Resumed, Stuck, Continuable, Onwards};
 ghost use Rattle.search.specs.Paths.{Explainable, Explained};
 
@@ -45,13 +45,16 @@ pub struct Found {
 
 // The event of the site is possible where the walk stands and copies have the value u.
 fn possible(e: Event, u: u32, p: Place) -> bool
-    requires { ⌜ OneToSix (e .machine .0) ⌝ }
+    requires { ⌜ Known e ⌝ }
     requires { ⌜ p .code < 64 ⌝ }
     ensures { λ r. ⌜ ((sys : Topology) (x : ℕ) → T (eventAt x (meant e))
         → (r ≡ true) ↔ T (possibleAt sys x (event (meant e)) (state (p .code) u (p .memory)))) ⌝ }
 {
     let operation = e.operation;
     match operation {
+        1 => true,
+        2 => true,
+        3 => true,
         4 => if p.code == 0 {
             p.memory == e.value
         } else {
@@ -59,7 +62,9 @@ fn possible(e: Event, u: u32, p: Place) -> bool
         },
         5 => !holds(p.code, e.machine),
         6 => p.code == 0,
-        _ => true,
+        7 => true,
+        0 => false,
+        8..=255 => false,
     }
 }
 

@@ -1,7 +1,7 @@
 // The rows of one location, from an event backward, as far as the place where the walk can go on from.
 //
-// Callers see to it that the scratch area has at least 4,096 words, at most 129 events and machines 1 to 6, and
-// that the values of the copies and the places of the walk are there.
+// Callers see to it that the scratch area has at least 4,096 words and at most 129 events, each known, and that the
+// values of the copies and the places of the walk are there.
 use rows::Row;
 use rows::Site;
 use rows::fine;

@@ -6,11 +6,10 @@ use mathlib.Core.List.{List}
 use lib.ListN.{length, getD, set, length-set}
 use lib.Seq.{getD-set-same, getD-set-other}
 use Rattle.model.specs.Cxl0.{Value}
-use Rattle.model.specs.declared.Event as event
 use Rattle.rows.specs.declared.Row.{Row}
 use Rattle.walking.specs.declared.Place.{Place}
-use Rattle.walking.specs.Scratch.{EVENTS, ROWS, PLACES, rowIn, copyIn, placeIn}
-use Rattle.walking.specs.Access.{WORDS, MOST, OnlyIn, EventPut, RowPut, CopyPut, PlacePut}
+use Rattle.walking.specs.Scratch.{ROWS, PLACES, rowIn, copyIn, placeIn}
+use Rattle.walking.specs.Access.{WORDS, MOST, OnlyIn, RowPut, CopyPut, PlacePut}
 use Rattle.walking.proofs.Frames.{only-set, only-then}
 
 -- Two words that are written one after the other: how they read, and that they are all that has changed.
@@ -29,38 +28,12 @@ module _ (w : List ℕ) (i a b : ℕ) where
       only-then (only-set i to w i a (omega arith) (omega arith))
       (only-set i to (set w i a) (i + 1) b (omega arith) (omega arith))
 
--- The parts of an event's first word.
-parts : (word op i x : ℕ) → op < 256 → i < 256 → x < 256 → word ≡ op + 256 * i + 65536 * x
-    → (word % 256 ≡ op) × (word / 256 % 256 ≡ i) × (word / 65536 % 256 ≡ x)
-parts word op i x p q r e = (omega arith, omega arith, omega arith)
-
 -- The parts of a place's word.
 place-parts : (word c m end : ℕ) → c < 256 → m < 4294967296 → word ≡ c + 256 * m + 1099511627776 * end
     → (word % 256 ≡ c) × (word / 256 % 4294967296 ≡ m) × (word / 1099511627776 ≡ end)
 place-parts word c m end p q e = (omega arith, omega arith, omega arith)
 
 module _ (w : List ℕ) (room : WORDS ≤ length w) where
-  pub event-put : (j : ℕ) (e : event.Event) → j < MOST
-      → e .operation < 256 → e .machine .0 < 256 → e .location .0 < 256 → e .value < 4294967296
-      → EventPut w j e
-      (two w (EVENTS + 2 * j) (e .operation + 256 * e .machine .0 + 65536 * e .location .0) (e .value))
-  event-put j e h p q r v =
-      let at = EVENTS + 2 * j in
-      let word = e .operation + 256 * e .machine .0 + 65536 * e .location .0 in
-      let w' = two w at word (e .value) in
-      let read = two-read w at word (e .value) (omega arith) in
-      let first = parts (getD w' at 0) (e .operation) (e .machine .0) (e .location .0) p q r (read .0) in
-      let second : getD w' (at + 1) 0 % 4294967296 ≡ e .value = omega (arith, read .1) in
-      record {
-        frame = two-only w at word (e .value) (at + 2) (omega arith);
-        stored = λ k. record {
-          operation = first .0 k;
-          machine = record { 0 = first .1 k };
-          location = record { 0 = first .2 k };
-          value = second k;
-        };
-      }
-
   pub row-put : (t : ℕ) (row : Row) → t ≤ MOST → row .value < 4294967296
       → RowPut w t row (set (two w (ROWS + 4 * t) (row .any) (row .one)) (ROWS + 4 * t + 2) (row .value))
   unfolding rowIn

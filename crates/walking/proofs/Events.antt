@@ -2,25 +2,28 @@
 use Prim.Native.Nat.{ℕ, zero, suc, _+_, _*_, _≤_, _<_}
 use native.Mathlib.Nat.{le-of-suc-le-suc, add-zero, zero-add}
 use native.Mathlib.Omega.{arith}
-use mathlib.Core.Path.{_≡_, refl, sym, ap, ap₂, _∙_}
+use mathlib.Core.Path.{_≡_, refl, ap, ap₂}
 use mathlib.Core.List.{List, [], _∷_, _++_}
 use lib.ListN.{length, take, drop}
 use Rattle.model.specs.Cxl0.{Location, Value, Event}
 use Rattle.model.specs.declared.Event as event
-use Rattle.rows.specs.Sites.{meant, machineOf, copyAfter, copyFrom}
+use Rattle.masks.specs.Sets.{OneToSix}
+use Rattle.rows.specs.Sites.{meant, Known, machineOf, copyAfter, copyFrom}
 use Rattle.rows.proofs.Numbered.{machine-of}
 use Rattle.walking.specs.Scratch.{EVENTS, ROWS, eventIn, eventsFrom, eventsIn}
 use Rattle.walking.specs.Access.{MOST, OnlyIn, structIn}
 use Rattle.walking.proofs.Frames.{getD-below}
 
--- An event that is read means the event, and has its machine.
-module _ (w : List ℕ) (j : ℕ) (e : event.Event) (read : e ≡ structIn w j) where
-  pub meant-read : meant e ≡ eventIn w j
-  unfolding eventIn
-  meant-read = ap meant read
+-- An event that is read means the event.
+pub meant-read : (w : List ℕ) (j : ℕ) (e : event.Event) → e ≡ structIn w j → meant e ≡ eventIn w j
+unfolding eventIn
+meant-read w j e read = ap meant read
 
-  pub machine-read : e .machine .0 ≡ machineOf (eventIn w j)
-  machine-read = sym (machine-of e) ∙ ap machineOf meant-read
+-- A known event is by one of machines 1 to 6.
+pub known-machine : (w : List ℕ) (j : ℕ) → Known (structIn w j) → OneToSix (machineOf (eventIn w j))
+known-machine w j known =
+    let event = structIn w j in
+    rw (← meant-read w j event refl, machine-of event) (known .machine)
 
 -- ---- parts
 
@@ -93,13 +96,17 @@ copies-suc w x t = rw zero-add at (copy-last w x 0 0 t)
 -- ---- the events' words
 
 -- Equal words of an event give equal events.
-pub event-same : {to : ℕ} {w w' : List ℕ} → OnlyIn ROWS to w w' → (j : ℕ) → j < MOST
-    → eventIn w' j ≡ eventIn w j
-unfolding eventIn
-event-same p j h =
+pub struct-same : {to : ℕ} {w w' : List ℕ} → OnlyIn ROWS to w w' → (j : ℕ) → j < MOST
+    → structIn w' j ≡ structIn w j
+struct-same p j h =
     let first = getD-below p (EVENTS + 2 * j) (omega arith) in
     let second = getD-below p (EVENTS + 2 * j + 1) (omega arith) in
     simp (first, second)
+
+pub event-same : {to : ℕ} {w w' : List ℕ} → OnlyIn ROWS to w w' → (j : ℕ) → j < MOST
+    → eventIn w' j ≡ eventIn w j
+unfolding eventIn
+event-same p j h = ap meant (struct-same p j h)
 
 same-from : {to : ℕ} {w w' : List ℕ} → OnlyIn ROWS to w w' → (j m : ℕ) → j + m ≤ MOST
     → eventsFrom w' j m ≡ eventsFrom w j m

@@ -6,9 +6,9 @@ use mathlib.Core.Path.{_≡_}
 use mathlib.Core.List.{List}
 use lib.ListN.{getD}
 use Rattle.walking.specs.Scratch.{ROWS, STEPS, eventIn, eventsIn, rowIn, copyIn}
-use Rattle.walking.specs.Access.{MOST, OnlyIn}
+use Rattle.walking.specs.Access.{MOST, OnlyIn, structIn}
 use Rattle.walking.proofs.Frames.{only-wider, getD-below}
-use Rattle.walking.proofs.Events.{event-same, events-same}
+use Rattle.walking.proofs.Events.{struct-same, event-same, events-same}
 
 module _ {from to : ℕ} {w w' : List ℕ} (only : OnlyIn from to w w') (h : STEPS ≤ from) where
   -- Each word before the steps is as it was.
@@ -17,6 +17,9 @@ module _ {from to : ℕ} {w w' : List ℕ} (only : OnlyIn from to w w') (h : STE
 
   events-apart : OnlyIn ROWS to w w'
   events-apart = only-wider only (omega arith) (le-refl to)
+
+  pub struct-kept : (j : ℕ) → j < MOST → structIn w' j ≡ structIn w j
+  struct-kept j l = struct-same events-apart j l
 
   pub event-kept : (j : ℕ) → j < MOST → eventIn w' j ≡ eventIn w j
   event-kept j l = event-same events-apart j l

@@ -26,6 +26,7 @@ use Rattle.walking.specs.Places.{codeAfter, memoryAfter, placeAfter}
 use Rattle.walking.specs.Walks.{Enters, Moved, Standing, Turned}
 use Rattle.walking.specs.Scratch.{eventIn, rowIn, copyIn}
 use Rattle.walking.proofs.Stored.{stored-none}
+use Rattle.walking.proofs.Events.{known-machine}
 use Rattle.walking.proofs.Trails.{runsTo-none, runsTo-cons, runsTo-append, trail-runs}
 
 -- The state after an event of the site.
@@ -91,6 +92,9 @@ elsewhere-runs sys s e away c u m =
 -- ---- one turn
 
 module _ (s : Site) (t : ℕ) (p : Place) (w : List ℕ) (stands : Standing s t p w) where
+  machine : OneToSix (machineOf (eventIn w t))
+  machine = known-machine w t (stands .steppable .known)
+
   -- The event does not concern the site.
   pub turned-elsewhere : T (not (eventAt (s .location .0) (eventIn w t))) → Turned s t p w p w
   unfolding steps
@@ -118,7 +122,7 @@ module _ (s : Site) (t : ℕ) (p : Place) (w : List ℕ) (stands : Standing s t 
     turn-enters =
         event-enters s (eventIn w t) (copyIn w t) (rowIn w (suc t)) inner here line
         (stands .system) (stands .describes) (p .code) (p .memory) (stands .fits)
-        (stands .steppable .machine) (stands .rest) (stands .right) (stands .runs)
+        machine (stands .rest) (stands .right) (stands .runs)
 
     pub turned-here : (q : Place) (w' : List ℕ) → Moved s t (copyIn w t) p w q w'
         → Fine inner (q .code) (q .memory) → Turned s t p w (placeAfter s (eventIn w t) q) w'
@@ -138,6 +142,6 @@ module _ (s : Site) (t : ℕ) (p : Place) (w : List ℕ) (stands : Standing s t 
           runs = λ sys d. runsTo-append sys x (steps (map (stepAt t x) (m .machines)))
               (trail-runs sys x t (rw (← d .owned) at (m .trail)))
               (event-runs s e u rest inner here line sys d c n (m .fits) f);
-          fits = event-fits s e u rest inner here line sys d c n (m .fits) (stands .steppable .machine);
+          fits = event-fits s e u rest inner here line sys d c n (m .fits) machine;
           fine = event-fine s e u rest inner here line sys d c n (m .fits) f;
         }

@@ -32,11 +32,6 @@ structIn w j =
       value = getD w (EVENTS + 2 * j + 1) 0 % 4294967296;
     }
 
--- Event j is e, and no other word has changed.
-pub record EventPut (w : List ℕ) (j : ℕ) (e : event.Event) (w' : List ℕ) : Type 0 where
-  pub frame : OnlyIn (EVENTS + 2 * j) (EVENTS + 2 * j + 2) w w'
-  pub stored : structIn w' j ≡ e
-
 -- Row t is `row`, and no other word has changed.
 pub record RowPut (w : List ℕ) (t : ℕ) (row : Row) (w' : List ℕ) : Type 0 where
   pub frame : OnlyIn (ROWS + 4 * t) (ROWS + 4 * t + 3) w w'

@@ -10,9 +10,9 @@ use Rattle.masks.specs.Sets.{OneToSix}
 use Rattle.rows.specs.declared.Row.{Row}
 use Rattle.rows.specs.declared.Site.{Site}
 use Rattle.rows.specs.Rows.{Right, Closed}
-use Rattle.rows.specs.Sites.{Describes, machineOf, copyAfter, copyFrom}
+use Rattle.rows.specs.Sites.{Known, Describes, copyAfter, copyFrom}
 use Rattle.walking.specs.Scratch.{ROWS, STEPS, eventIn, eventsIn, copyIn}
-use Rattle.walking.specs.Access.{WORDS, MOST, OnlyIn}
+use Rattle.walking.specs.Access.{WORDS, MOST, OnlyIn, structIn}
 
 -- The copy words of rows 0 to m have the values of the copies of x after so many events.
 abbrev pub Copies : Location → ℕ → List ℕ → Type 0
@@ -29,20 +29,20 @@ Fits sys s m w = HasRunAt sys (s .location .0) (eventsIn w m) (startAt sys (s .l
 
 -- ---- what it asks
 
--- The scratch area is long enough, and has m events by machines 1 to 6 and the copies of the site's location.
+-- The scratch area is long enough, and has m known events and the copies of the site's location.
 pub record Ready (s : Site) (m : ℕ) (w : List ℕ) : Type 0 where
   pub room : WORDS ≤ length w
   pub few : m ≤ MOST
   pub owner : OneToSix (s .owner .0)
-  pub machines : (j : ℕ) → j < m → OneToSix (machineOf (eventIn w j))
+  pub known : (j : ℕ) → j < m → Known (structIn w j)
   pub copies : Copies (s .location .0) m w
 
--- Event t is by one of machines 1 to 6, and `rest` is closed under the copies that the event leaves.
+-- Event t is known, and `rest` is closed under the copies that the event leaves.
 pub record Steppable (s : Site) (t : ℕ) (w : List ℕ) (rest : Row) : Type 0 where
   pub room : WORDS ≤ length w
   pub few : t < MOST
   pub owner : OneToSix (s .owner .0)
-  pub machine : OneToSix (machineOf (eventIn w t))
+  pub known : Known (structIn w t)
   pub closed : Closed (copyAfter (s .location .0) (copyIn w t) (eventIn w t)) rest
 
 -- ---- what it leaves

@@ -1,5 +1,5 @@
 -- Silent steps of one location, one after the other, by their machines: 0 stands for a write-back.
-use Prim.Native.Nat.{ℕ, zero, suc, _+_, _*_}
+use Prim.Native.Nat.{ℕ, zero, suc, _+_, _*_, _≤_}
 use mathlib.Core.Path.{_≡_}
 use mathlib.Core.Bool.{Bool, cond, not, _&&_}
 use mathlib.Core.List.{List, [], _∷_, _++_}
@@ -17,6 +17,11 @@ pub data Trail (k : Machine) : List Machine → Local → Local → Type 0 where
       → Trail k is (recoded (moved k i (s .code)) s) t → Trail k (i ∷ is) s t
   writes : {s t : Local} {is : List Machine} → T (has k (s .code))
       → Trail k is (written s) t → Trail k (0 ∷ is) s t
+
+-- Machine i is the first one in the set of code c.
+pub record FirstHolder (i : Machine) (c : ℕ) : Type 0 where
+  pub held : T (has i c)
+  pub first : (j : Machine) → T (has j c) → i ≤ j
 
 -- Between code c and code d, machine i gives its copy up to the owner k.
 unfoldable pub givesUp : Machine → ℕ → ℕ → Machine → Bool

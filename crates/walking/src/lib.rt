@@ -1,7 +1,8 @@
 // The walk of one location over rows: before each event, the silent steps that lead to a state from which the event
 // is possible and the events after it can be finished.
 //
-// Callers see to it that the rows are there and that the events have a run from the place where the walk begins.
+// Callers see to it that the rows are there, that the events have a run from the place where the walk begins, and that
+// they are known, so that none comes to the arms of refused operations.
 use crate::scratch::get_copy;
 use crate::scratch::get_event;
 use crate::scratch::get_row;
@@ -23,9 +24,9 @@ ghost use lib.ListN.{length};
 ghost use Rattle.model.specs.Sharers.{has};
 ghost use Rattle.masks.specs.Sets.{OneToSix};
 ghost use Rattle.rows.specs.Rows.{Fine};
-ghost use Rattle.rows.specs.Sites.{meant};
+ghost use Rattle.rows.specs.Sites.{meant, Known};
 ghost use Rattle.walking.specs.Stored.{Stored};
-ghost use Rattle.walking.specs.Trails.{oneIf, givesUp, leaving, wordOf};
+ghost use Rattle.walking.specs.Trails.{FirstHolder, oneIf, givesUp, leaving, wordOf};
 ghost use Rattle.walking.specs.Places.{codeAfter, memoryAfter, placeAfter};
 ghost use Rattle.walking.specs.Walks.{Noted, Enters, Moved, Standing, Turned};
 
@@ -38,12 +39,15 @@ pub struct Place {
     pub end: usize,
 }
 
-// The word of a step of the site after t events, by machine i, or 0 for a write-back.
-fn word(site: Site, t: usize, i: u8) -> u64
+// What stands for a write-back where a step names its machine: no machine has the number 0.
+const WRITE_BACK: Machine = Machine(0);
+
+// The word of a step of the site after t events, by machine i.
+fn word(site: Site, t: usize, i: Machine) -> u64
     requires { ⌜ t < 256 ⌝ }
-    ensures { λ r. ⌜ r ≡ wordOf t (site .location .0) i ⌝ }
+    ensures { λ r. ⌜ r ≡ wordOf t (site .location .0) (i .0) ⌝ }
 {
-    t as u64 + 256 * (site.location.0 as u64) + 65536 * (i as u64)
+    t as u64 + 256 * (site.location.0 as u64) + 65536 * (i.0 as u64)
 }
 
 // Stores a word where the test holds, and hands back the place after it.
@@ -66,6 +70,16 @@ pub fn holds(c: u8, i: Machine) -> bool
     c & alone(i) != 0
 }
 
+// The first machine in the set of code c.
+fn first_holder(c: u8) -> Machine
+    requires { ⌜ (c < 64) × (c ≢ 0) ⌝ }
+    ensures { λ r. ⌜ FirstHolder (r .0) c ⌝ }
+{
+    let bit = lowest(c as u64);
+    let n = bit + 1;
+    Machine(n)
+}
+
 // Machine i gives its copy up to the owner, between code c and code d.
 fn gives_up(site: Site, c: u8, d: u8, i: Machine) -> bool
     requires { ⌜ (c < 64) × (d < 64) ⌝ }
@@ -82,13 +96,14 @@ fn move_to(w: &mut [u64], at: usize, site: Site, t: usize, c: u8, d: u8) -> usiz
     ensures { λ r. ⌜ Noted site t (leaving (site .owner .0) c d 6) (now (w .entry)) at (now (w .exit)) r ⌝ }
 {
     let mut to = at;
-    for i in 1..7u8 {
-        to = put_if(w, to, gives_up(site, c, d, Machine(i)), word(site, t, i));
+    for n in 1..7u8 {
+        let i = Machine(n);
+        to = put_if(w, to, gives_up(site, c, d, i), word(site, t, i));
     }
     to
 }
 
-// A write-back of copies of the value u, after a move of the least machine that has one if the owner has none.
+// A write-back of copies of the value u, after a move of the first machine that has one if the owner has none.
 fn write_back(w: &mut [u64], site: Site, t: usize, u: u32, p: Place) -> Place
     requires { ⌜ (p .end + 2 ≤ length (now w)) × (t < 256) ⌝ }
     requires { ⌜ OneToSix (site .owner .0) ⌝ }
@@ -97,10 +112,10 @@ fn write_back(w: &mut [u64], site: Site, t: usize, u: u32, p: Place) -> Place
     ensures { λ r. ⌜ (r .code ≡ 0) × (r .memory ≡ u) ⌝ }
 {
     let c = p.code;
-    let first = lowest(c as u64) + 1;
+    let first = first_holder(c);
     let owned = holds(c, site.owner);
     let to = put_if(w, p.end, !owned, word(site, t, first));
-    let end = put_if(w, to, true, word(site, t, 0));
+    let end = put_if(w, to, true, word(site, t, WRITE_BACK));
     Place {
         code: 0,
         memory: u,
@@ -140,7 +155,7 @@ fn gap(w: &mut [u64], site: Site, t: usize, u: u32, row: Row, p: Place) -> Place
 // The code after an event of the site.
 fn code_after(site: Site, e: Event, c: u8) -> u8
     requires { ⌜ OneToSix (site .owner .0) ⌝ }
-    requires { ⌜ OneToSix (e .machine .0) ⌝ }
+    requires { ⌜ Known e ⌝ }
     requires { ⌜ c < 64 ⌝ }
     ensures { λ r. ⌜ r ≡ codeAfter (site .owner .0) (meant e) c ⌝ }
 {
@@ -153,12 +168,15 @@ fn code_after(site: Site, e: Event, c: u8) -> u8
         4 => if c == 0 { 0 } else { c | alone(i) },
         5 => c,
         6 => c,
-        _ => c & !alone(i),
+        7 => c & !alone(i),
+        0 => c,
+        8..=255 => c,
     }
 }
 
 // The memory value after an event of the site.
 fn memory_after(site: Site, e: Event, m: u32) -> u32
+    requires { ⌜ Known e ⌝ }
     ensures { λ r. ⌜ r ≡ memoryAfter site (meant e) m ⌝ }
 {
     let operation = e.operation;
@@ -169,18 +187,20 @@ fn memory_after(site: Site, e: Event, m: u32) -> u32
         4 => m,
         5 => m,
         6 => m,
-        _ => if (site.owner.0 == e.machine.0) & site.volatile {
+        7 => if (site.owner.0 == e.machine.0) & site.volatile {
             site.initial
         } else {
             m
         },
+        0 => m,
+        8..=255 => m,
     }
 }
 
 // The place after an event of the site.
 pub fn place_after(site: Site, e: Event, p: Place) -> Place
     requires { ⌜ OneToSix (site .owner .0) ⌝ }
-    requires { ⌜ OneToSix (e .machine .0) ⌝ }
+    requires { ⌜ Known e ⌝ }
     requires { ⌜ p .code < 64 ⌝ }
     ensures { λ r. ⌜ r ≡ placeAfter site (meant e) p ⌝ }
 {

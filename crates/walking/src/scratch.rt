@@ -12,7 +12,7 @@ ghost use mathlib.Core.Path.{_≡_};
 ghost use Prim.Native.Nat.{_≤_, _<_};
 ghost use lib.ListN.{length};
 ghost use Rattle.walking.specs.Scratch.{rowIn, copyIn, placeIn};
-ghost use Rattle.walking.specs.Access.{WORDS, MOST, structIn, EventPut, RowPut, CopyPut, PlacePut};
+ghost use Rattle.walking.specs.Access.{WORDS, MOST, structIn, RowPut, CopyPut, PlacePut};
 
 pub const EVENTS: usize = 0;
 
@@ -40,17 +40,6 @@ pub fn get_event(w: &[u64], j: usize) -> Event
         location: Location((word / 65536 % 256) as u8),
         value: (value % 4294967296) as u32,
     }
-}
-
-// Makes e event j.
-pub fn put_event(w: &mut [u64], j: usize, e: Event)
-    requires { ⌜ (WORDS ≤ length (now w)) × (j < MOST) ⌝ }
-    ensures { λ _. ⌜ EventPut (now (w .entry)) j e (now (w .exit)) ⌝ }
-{
-    let word = e.operation as u64 + 256 * (e.machine.0 as u64) + 65536 * (e.location.0 as u64);
-    let at = EVENTS + 2 * j;
-    w[at] = word;
-    w[at + 1] = e.value as u64;
 }
 
 // Row t.

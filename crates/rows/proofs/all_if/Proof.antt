@@ -1,5 +1,6 @@
--- `search::table::all_if` meets its contract.
+-- `rows::all_if` meets its contract.
 use borrow.Author.Needs.{needs}
+use Rattle.masks.proofs.Constants.{in-every}
 use Rattle.rows.proofs.all_if.Statement.{statement}
 use Rattle.rows.proofs.all_if.Tie as tie
 
@@ -12,7 +13,7 @@ only-if-requires c κs = search needs
 returns : tie.Need-returns
 returns c t h =
     let only = c .only-if .ensures t h in
-    (λ i. only .0 i .1, λ e. only .1 (c .before .all .ensures t h, e))
+    (λ i. only .0 i .1, λ e. only .1 (rw (c .before .all .ensures) (in-every t h), e))
 
 pub all-if-spec : {M : Type 1} → statement M
 all-if-spec = tie.close (tie.spec all-requires only-if-requires returns)

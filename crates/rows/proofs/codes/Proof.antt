@@ -1,4 +1,4 @@
--- `search::table::codes` meets its contract, at the row's own value and at another one.
+-- `rows::codes` meets its contract, at the row's own value and at another one.
 use Rattle.rows.proofs.FineRows.{codes-at, codes-off}
 use Rattle.rows.proofs.codes.Statement.{statement}
 use Rattle.rows.proofs.codes.Tie as tie

@@ -1,4 +1,4 @@
--- `search::table::crash_row` meets its contract, where memory is cleared and where it is kept.
+-- `rows::crash_row` meets its contract, where memory is cleared and where it is kept.
 use borrow.Author.Needs.{needs}
 use native.Mathlib.Nat.{lt-of-le-of-lt}
 use mathlib.Core.Logic.{Iff·trans}

@@ -1,4 +1,4 @@
--- `search::table::fine` meets its contract.
+-- `rows::fine` meets its contract.
 use borrow.Author.Needs.{needs}
 use mathlib.Core.Logic.{Iff·trans}
 use Rattle.rows.proofs.fine.Statement.{statement}

@@ -1,4 +1,4 @@
--- `search::table::gap_row` meets its contract: moves lead into the row, or a write-back does.
+-- `rows::gap_row` meets its contract: moves lead into the row, or a write-back does.
 use borrow.Author.Needs.{needs}
 use mathlib.Core.Path.{refl}
 use mathlib.Core.Logic.{_≢_, Iff·trans, Iff·and}

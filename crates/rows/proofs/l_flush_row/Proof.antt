@@ -1,4 +1,4 @@
--- `search::table::l_flush_row` meets its contract.
+-- `rows::l_flush_row` meets its contract.
 use borrow.Author.Needs.{needs}
 use mathlib.Core.Bool.{not}
 use lib.Dec.{T}

@@ -1,17 +1,18 @@
--- `search::table::last_row` meets its contract.
+-- `rows::last_row` meets its contract.
 use borrow.Author.Needs.{needs}
-use Rattle.rows.proofs.Rows.{right-nil}
-use Rattle.rows.proofs.FineRows.{row}
+use mathlib.Core.Path.{ap, _∙_}
+use Rattle.rows.specs.Rows.{anyRow}
 use Rattle.rows.proofs.last_row.Statement.{statement}
 use Rattle.rows.proofs.last_row.Tie as tie
 
 all-requires : tie.Need-all-requires
 all-requires c κs = search needs
 
+any-row-requires : tie.Need-any-row-requires
+any-row-requires c κs = search needs
+
 returns : tie.Need-returns
-returns c =
-    let all = c .all in
-    (λ sys x u. right-nil sys x u (row (all .result) 0 0) (all .ensures), λ u f d h z. all .ensures d h)
+returns c = c .any-row .ensures ∙ ap anyRow (c .before .all .ensures)
 
 pub last-row-spec : {M : Type 1} → statement M
-last-row-spec = tie.close (tie.spec all-requires returns)
+last-row-spec = tie.close (tie.spec all-requires any-row-requires returns)

@@ -1,4 +1,4 @@
--- `search::table::load_copies_row` meets its contract: the codes that are not 0, once they gain the machine.
+-- `rows::load_copies_row` meets its contract: the codes that are not 0, once they gain the machine.
 use borrow.Author.Needs.{needs}
 use mathlib.Core.Logic.{_≢_}
 use lib.Bits.{bitAnd}

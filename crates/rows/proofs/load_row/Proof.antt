@@ -1,4 +1,4 @@
--- `search::table::load_row` meets its contract: the load reads memory, or the copies, or is not possible.
+-- `rows::load_row` meets its contract: the load reads memory, or the copies, or is not possible.
 use borrow.Author.Needs.{needs}
 use mathlib.Core.Path.{sym, _∙_}
 use mathlib.Core.Logic.{Iff·trans, Iff·and}

@@ -1,4 +1,4 @@
--- `search::table::m_store_row` meets its contract: every code, if code 0 is fine.
+-- `rows::m_store_row` meets its contract: every code, if code 0 is fine.
 use borrow.Author.Needs.{needs}
 use mathlib.Core.Logic.{Iff·trans}
 use Rattle.rows.proofs.FineRows.{any-of}

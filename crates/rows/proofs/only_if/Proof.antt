@@ -1,4 +1,4 @@
--- `search::table::only_if` meets its contract.
+-- `rows::only_if` meets its contract.
 use mathlib.Core.Bool.{true≢false}
 use mathlib.Core.Path.{sym, _∙_}
 use Rattle.masks.proofs.Sets.{in-none}

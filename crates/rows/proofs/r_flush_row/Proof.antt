@@ -1,4 +1,4 @@
--- `search::table::r_flush_row` meets its contract: code 0 alone.
+-- `rows::r_flush_row` meets its contract: code 0 alone.
 use borrow.Author.Needs.{needs}
 use mathlib.Core.Path.{_≡_}
 use mathlib.Core.Logic.{Iff·rfl}

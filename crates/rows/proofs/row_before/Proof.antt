@@ -1,9 +1,9 @@
--- `search::table::row_before` meets its contract: each arm is a line of the table.
+-- `rows::row_before` meets its contract: each arm is a line of the table.
 use borrow.Author.Needs.{needs}
 use native.Mathlib.Omega.{arith}
 use Rattle.model.specs.Operations.{eventOf}
 use Rattle.rows.specs.Sites.{copyAfter}
-use Rattle.rows.proofs.Numbered.{at-crash}
+use Rattle.rows.proofs.Numbered.{operation-range, no-other}
 use Rattle.rows.proofs.row_before.Statement.{statement}
 use Rattle.rows.proofs.row_before.Tie as tie
 
@@ -26,7 +26,7 @@ load-row-requires : tie.Need-load-row-requires
 unfolding eventOf copyAfter
 load-row-requires c κs =
     let pre = c .before .before .pre in
-    (pre .1 .0, rw (c .match .keys4) at (pre .1 .1))
+    (pre .1 .0 .machine, rw (c .match .keys4) at (pre .1 .1))
 
 l-flush-row-requires : tie.Need-l-flush-row-requires
 l-flush-row-requires c κs = search needs
@@ -68,10 +68,18 @@ unfolding eventOf
 returns-6 c sys d = rw (c .before .match .keys6) (c .r-flush-row .ensures)
 
 returns-7 : tie.Need-returns-7
+unfolding eventOf
 returns-7 c sys d =
-    let e = c .before .before .before .before .before .before .args .e in
-    let crash = at-crash e (λ l h. omega arith) in
-    rw (crash, d .cleared (e .machine .0), d .begins) (c .crash-row .ensures)
+    let here = c .before .before .before .before in
+    let i = here .before .before .args .e .machine .0 in
+    rw (here .match .keys7, d .cleared i, d .begins) (c .crash-row .ensures)
+
+-- No operation has another number.
+returns-8 : tie.Need-returns-8
+returns-8 c = absurd (omega (arith, operation-range (c .before .before .pre .1 .0 .operation)))
+
+returns-9 : tie.Need-returns-9
+returns-9 c = absurd (no-other (c .before .before .pre .1 .0 .operation) (c .match .rest))
 
 pub row-before-spec : {M : Type 1} → statement M
 row-before-spec =
@@ -92,4 +100,6 @@ row-before-spec =
     returns-4
     returns-5
     returns-6
-    returns-7)
+    returns-7
+    returns-8
+    returns-9)

@@ -1,4 +1,4 @@
--- `search::table::row_step` meets its contract, where the event concerns the location and where it does not.
+-- `rows::row_step` meets its contract, where the event concerns the location and where it does not.
 use borrow.Author.Needs.{needs}
 use mathlib.Core.Path.{sym, _∙_}
 use Rattle.model.proofs.Tests.{true→T, false→not}
@@ -25,7 +25,7 @@ returns c =
     let e = a .e in
     let here = c .before .before in
     let t = true→T (sym (here .before .concerned .ensures) ∙ here .if1 .taken) in
-    let by : OneToSix (machineOf (meant e)) = rw machine-of (start .pre .1 .0) in
+    let by : OneToSix (machineOf (meant e)) = rw machine-of (start .pre .1 .0 .machine) in
     let inner = c .before .row-before in
     stepped (a .site) (meant e) (a .u) (a .rest) (inner .result) (c .gap-row .result) by t (inner .ensures)
     (c .gap-row .ensures .0) (c .gap-row .ensures .1)

@@ -1,4 +1,4 @@
--- `search::table::store_row` meets its contract: each of its sets has every code or none.
+-- `rows::store_row` meets its contract: each of its sets has every code or none.
 use borrow.Author.Needs.{needs}
 use mathlib.Core.Logic.{Iff·trans}
 use Rattle.rows.proofs.FineRows.{row-of}

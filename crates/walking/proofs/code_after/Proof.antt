@@ -3,7 +3,7 @@ use native.Mathlib.Omega.{arith}
 use borrow.Author.Needs.{needs}
 use borrow.Author.Tests.{eq-eqb, ne-eqb}
 use Rattle.model.specs.Operations.{eventOf}
-use Rattle.rows.proofs.Numbered.{at-crash}
+use Rattle.rows.proofs.Numbered.{operation-range, no-other}
 use Rattle.walking.specs.Places.{codeAfter}
 use Rattle.walking.proofs.Holders.{with-bit, without-bit}
 use Rattle.walking.proofs.code_after.Statement.{statement}
@@ -55,13 +55,20 @@ unfolding eventOf codeAfter
 returns-7 c = rw (c .match .keys6)
 
 returns-8 : tie.Need-returns-8
-unfolding codeAfter
+unfolding eventOf codeAfter
 returns-8 c =
     let a = c .before .before .before .args in
     let alone = c .alone4 in
     let i = a .e .machine .0 in
-    rw (at-crash (a .e) (λ l h. omega arith))
+    rw (c .before .match .keys7)
     (without-bit i (a .c) (alone .result) (alone .ensures .0) (alone .ensures .1) (omega arith))
+
+-- No operation has another number.
+returns-9 : tie.Need-returns-9
+returns-9 c = absurd (omega (arith, operation-range (c .before .before .pre .1 .0 .operation)))
+
+returns-10 : tie.Need-returns-10
+returns-10 c = absurd (no-other (c .before .before .pre .1 .0 .operation) (c .match .rest))
 
 pub code-after-spec : {M : Type 1} → statement M
 code-after-spec =
@@ -78,4 +85,6 @@ code-after-spec =
     returns-5
     returns-6
     returns-7
-    returns-8)
+    returns-8
+    returns-9
+    returns-10)

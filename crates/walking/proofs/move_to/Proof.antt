@@ -1,4 +1,4 @@
--- `move_to` meets its contract. The loop's invariant: those of machines 1 to i - 1 that give up are noted.
+-- `move_to` meets its contract. The loop's invariant: those of machines 1 to n - 1 that give up are noted.
 use Prim.Native.Nat.{ℕ, suc, _+_, _-_, _≤_}
 use native.Mathlib.Omega.{arith}
 use mathlib.Core.Path.{_≡_, refl}
@@ -12,19 +12,19 @@ use Rattle.walking.proofs.move_to.Statement.{statement}
 use Rattle.walking.proofs.move_to.Tie as tie
 
 abbrev Inv-loop : tie.InvT-loop
-Inv-loop w₀ at site t c d to₀ i₀ w to i =
-    (n : ℕ) × (i ≡ suc n) × (n ≤ 6) × Noted site t (leaving (site .owner .0) c d n) w₀ at w to
+Inv-loop w₀ at site t c d to₀ n₀ w to n =
+    (k : ℕ) × (n ≡ suc k) × (k ≤ 6) × Noted site t (leaving (site .owner .0) c d k) w₀ at w to
 
 abbrev μ-loop : tie.MeasureT-loop
-μ-loop w₀ at site t c d to₀ i₀ w to i = 7 - i
+μ-loop w₀ at site t c d to₀ n₀ w to n = 7 - n
 
 loop-holds : tie.Need-loop-holds Inv-loop μ-loop
 unfolding leaving
 loop-holds c = (0, refl, omega arith, stored-none _ _)
 
--- The area keeps its length, and at most i - 1 words are stored.
+-- The area keeps its length, and at most n - 1 words are stored.
 room : (h : tie.At-loop Inv-loop μ-loop) → let a : _ = h .before .before .args in
-    (length (h .loop .w) ≡ length (a .w .now)) × (h .loop .to + 1 ≤ a .at + h .loop .i)
+    (length (h .loop .w) ≡ length (a .w .now)) × (h .loop .to + 1 ≤ a .at + h .loop .n)
 room h =
     let a = h .before .before .args in
     let inv = h .loop .inv in
@@ -41,8 +41,8 @@ word-requires c κs = omega arith
 put-if-requires : tie.Need-put-if-requires Inv-loop μ-loop
 put-if-requires c κs = omega (arith, room (c .before .before .before .before))
 
-add-i : tie.Need-add-i Inv-loop μ-loop
-add-i c = omega arith
+add-n : tie.Need-add-n Inv-loop μ-loop
+add-n c = omega arith
 
 loop-less : tie.Need-loop-less Inv-loop μ-loop
 loop-less c = omega arith
@@ -84,7 +84,7 @@ move-to-spec =
     gives-up-requires
     word-requires
     put-if-requires
-    add-i
+    add-n
     loop-less
     loop-again
     same-length

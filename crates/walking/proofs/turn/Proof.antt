@@ -8,21 +8,17 @@ use borrow.Author.Needs.{needs}
 use Rattle.model.specs.Cxl0.{Topology}
 use Rattle.model.specs.OneLocation.{eventAt}
 use Rattle.model.proofs.Tests.{true→T, false→not}
-use Rattle.masks.specs.Sets.{OneToSix}
 use Rattle.rows.specs.Rows.{RowOf}
 use Rattle.rows.specs.Lines.{Line}
-use Rattle.rows.specs.Sites.{Describes, meant}
+use Rattle.rows.specs.Sites.{Known, Describes, meant}
 use Rattle.walking.specs.Scratch.{eventIn, rowIn, copyIn}
-use Rattle.walking.proofs.Events.{meant-read, machine-read}
+use Rattle.walking.proofs.Events.{meant-read}
 use Rattle.walking.proofs.Turns.{turned-elsewhere, turn-enters, turned-here}
 use Rattle.walking.proofs.turn.Statement.{statement}
 use Rattle.walking.proofs.turn.Tie as tie
 
 get-event-requires : tie.Need-get-event-requires
 get-event-requires c κs = search needs
-
-concerned-requires : tie.Need-concerned-requires
-concerned-requires c κs = search needs
 
 get-copy-requires : tie.Need-get-copy-requires
 get-copy-requires c κs = search needs
@@ -33,19 +29,18 @@ add-get-row c = search needs
 get-row-requires : tie.Need-get-row-requires
 get-row-requires c κs = search needs
 
--- The event that is read is event t, by one of machines 1 to 6.
+-- The event that is read is event t, and known.
 event : (h : tie.After-get-event) → let a : _ = h .before .before .before .args in
     meant (h .get-event .result) ≡ eventIn (a .w .now) (a .t)
 event h =
     let a = h .before .before .before .args in
     meant-read (a .w .now) (a .t) (h .get-event .result) (h .get-event .ensures)
 
-machine : (h : tie.After-get-event) → OneToSix (h .get-event .result .machine .0)
-machine h =
-    let start = h .before .before .before in
-    let a = start .args in
-    rw (machine-read (a .w .now) (a .t) (h .get-event .result) (h .get-event .ensures))
-    (start .pre .steppable .machine)
+known : (h : tie.After-get-event) → Known (h .get-event .result)
+known h = rw (h .get-event .ensures) (h .before .before .before .pre .steppable .known)
+
+concerned-requires : tie.Need-concerned-requires
+concerned-requires c κs = known c
 
 -- The test says whether it concerns the site.
 concerns : (h : tie.After-concerned) → let a : _ = h .before .before .before .before .args in
@@ -84,7 +79,7 @@ row-before-requires c κs =
     let read = copy .before .before .before .before in
     let asked = read .before .before .before .pre .steppable in
     rw (again c)
-    (asked .owner, (machine read, rw (event read, copy .get-copy .ensures, row after) (asked .closed)))
+    (asked .owner, (known read, rw (event read, copy .get-copy .ensures, row after) (asked .closed)))
 
 -- The row before it is the table's.
 line : (h : tie.After-row-before)
@@ -119,7 +114,7 @@ place-after-requires c κs =
     let gap = c .before .before in
     let table = gap .before .before in
     let read = table .before .before .before .before .before .before .before .before .before in
-    (read .before .before .before .pre .steppable .owner, (machine read, gap .gap .ensures .0 .fits))
+    (read .before .before .before .pre .steppable .owner, (known read, gap .gap .ensures .0 .fits))
 
 same-length : tie.Need-same-length
 same-length c = search needs

@@ -1,5 +1,4 @@
 -- `write_back` meets its contract.
-use Prim.Native.Nat.{_+_}
 use native.Mathlib.Omega.{arith}
 use mathlib.Core.Path.{refl}
 use mathlib.Core.List.{[]}
@@ -10,22 +9,12 @@ use Rattle.model.specs.Sharers.{has}
 use Rattle.walking.specs.Trails.{oneIf, draining, wordOf}
 use Rattle.walking.proofs.Stored.{stored-none, stored-length}
 use Rattle.walking.proofs.StepWords.{oneIf-few, stored-if}
-use Rattle.walking.proofs.Holders.{least-has}
 use Rattle.walking.proofs.Entering.{draining-trail}
 use Rattle.walking.proofs.write_back.Statement.{statement}
 use Rattle.walking.proofs.write_back.Tie as tie
 
-cast-lowest : tie.Need-cast-lowest
-cast-lowest c = search needs
-
-lowest-requires : tie.Need-lowest-requires
-lowest-requires c κs = search needs
-
--- The least machine that has a copy.
-add-first : tie.Need-add-first
-add-first c =
-    let a = c .before .before .args in
-    omega (arith, least-has (c .lowest .result) (a .p .code) (omega arith) (c .lowest .ensures) .0)
+first-holder-requires : tie.Need-first-holder-requires
+first-holder-requires c κs = search needs
 
 holds-requires : tie.Need-holds-requires
 holds-requires c κs = search needs
@@ -55,23 +44,22 @@ returns c =
     let h = w2 .before .before .before .before in
     let word = h .before in
     let holds = word .before .before in
-    let lowest = holds .before in
-    let start = lowest .before .before in
+    let first = holds .before in
+    let start = first .before .before in
     let a = start .args in
     let k = a .site .owner .0 in
     let z = a .p .code in
-    let i = lowest .lowest .result + 1 in
+    let i = first .first-holder .result .0 in
     let b = not (has k z) in
     let f = wordOf (a .t) (a .site .location .0) in
-    let first = rw (word .word .ensures, holds .holds .ensures) at (h .put-if .ensures) in
-    let second = rw (w2 .word2 .ensures) at (c .before .before .put-if2 .ensures) in
-    let one = stored-if f [] b i (stored-none (a .w .now) (a .p .end)) first in
-    let held = least-has (lowest .lowest .result) z (omega arith) (lowest .lowest .ensures) .1 in (
+    let moved = rw (word .word .ensures, holds .holds .ensures) at (h .put-if .ensures) in
+    let written = rw (w2 .word2 .ensures) at (c .before .before .put-if2 .ensures) in
+    let one = stored-if f [] b i (stored-none (a .w .now) (a .p .end)) moved in (
       record {
         machines = draining k z i;
         few = rw length-append (omega (arith, oneIf-few b i));
-        noted = stored-if f (oneIf b i) true 0 one second;
-        trail = draining-trail k z i (start .pre .1 .0) held (a .u) (a .p .memory);
+        noted = stored-if f (oneIf b i) true 0 one written;
+        trail = draining-trail k z i (start .pre .1 .0) (first .first-holder .ensures .held) (a .u) (a .p .memory);
         fits = omega arith;
       },
       (refl, refl),
@@ -81,9 +69,7 @@ pub write-back-spec : {M : Type 1} → statement M
 write-back-spec =
     tie.close
     (tie.spec
-    cast-lowest
-    lowest-requires
-    add-first
+    first-holder-requires
     holds-requires
     word-requires
     put-if-requires

@@ -1,4 +1,4 @@
--- `judge::picking::copy_event` meets its contract.
+-- `events::picking::copy_event` meets its contract.
 use borrow.Author.Needs.{needs}
 use native.Mathlib.Omega.{arith}
 use lib.ListN.{length-set}

@@ -1,4 +1,4 @@
--- `judge::picking::pick_first` meets its contract.
+-- `events::picking::pick_first` meets its contract.
 use borrow.Author.Needs.{needs}
 use mathlib.Core.Path.{refl}
 use Rattle.events.proofs.picking.pick_first.Statement.{statement}

@@ -1,4 +1,4 @@
--- `judge::picking::pick_one` meets its contract: by whether a crash comes first.
+-- `events::picking::pick_one` meets its contract: by whether a crash comes first.
 use borrow.Author.Needs.{needs}
 use mathlib.Core.Path.{refl}
 use borrow.Author.Tests.{lt-ltb, le-ltb}

@@ -1,4 +1,4 @@
--- `judge::retiming::retime` meets its contract. The loop's invariant: the steps from number `from` to
+-- `events::retiming::retime` meets its contract. The loop's invariant: the steps from number `from` to
 -- number j are retimed, and no other word has changed.
 use Prim.Native.Nat.{_-_, _≤_}
 use native.Mathlib.Omega.{arith}

@@ -1,4 +1,4 @@
--- `judge::retiming::retimed_word` meets its contract.
+-- `events::retiming::retimed_word` meets its contract.
 use native.Mathlib.Omega.{arith}
 use borrow.Author.Needs.{needs}
 use Rattle.events.proofs.Retimings.{word-count}

@@ -7,10 +7,9 @@ use mathlib.Core.List.{List}
 use mathlib.Core.Bool.{not, Bool·not-not}
 use borrow.Author.Needs.{needs}
 use Rattle.model.proofs.Tests.{true→T}
-use Rattle.masks.specs.Sets.{OneToSix}
-use Rattle.rows.specs.Sites.{meant, copyAfter}
+use Rattle.rows.specs.Sites.{meant, Known, copyAfter}
 use Rattle.walking.specs.Scratch.{eventIn}
-use Rattle.walking.proofs.Events.{meant-read, machine-read}
+use Rattle.walking.proofs.Events.{meant-read}
 use Rattle.search.proofs.Continuing.{Begun, begun, continuable-end, continuable-fits}
 use Rattle.search.proofs.Continuing.{went-elsewhere, went-ahead, went-otherwise}
 use Rattle.search.proofs.explaining.go_on.Statement.{statement}
@@ -18,6 +17,10 @@ use Rattle.search.proofs.explaining.go_on.Tie as tie
 
 get-event-requires : tie.Need-get-event-requires
 get-event-requires c κs = search needs
+
+-- The event that is read is known.
+known : (h : tie.After-get-event) → Known (h .get-event .result)
+known h = rw (h .get-event .ensures) (h .before .before .before .pre .known)
 
 get-copy-requires : tie.Need-get-copy-requires
 get-copy-requires c κs = search needs
@@ -31,13 +34,10 @@ add-put-copy : tie.Need-add-put-copy
 add-put-copy c = search needs
 
 copy-after-requires : tie.Need-copy-after-requires
-copy-after-requires c κs = search needs
+copy-after-requires c κs = known (c .before .before .before .before .before .before .before)
 
 put-copy-requires : tie.Need-put-copy-requires
 put-copy-requires c κs = search needs
-
-concerned-requires : tie.Need-concerned-requires
-concerned-requires c κs = search needs
 
 -- ---- once the place and the copies are put
 
@@ -70,11 +70,8 @@ begins h =
     let placed = h .before .before .before .before .before .put-place .ensures in
     begun (start h .pre) placed (h .put-copy .ensures) next
 
--- The machine of the event is one of 1 to 6.
-machine : (h : tie.After-put-copy) → OneToSix (got-event h .get-event .result .machine .0)
-machine h =
-    let got = got-event h .get-event in
-    rw (machine-read (words h) (start h .args .t) (got .result) (got .ensures)) (start h .pre .machine)
+concerned-requires : tie.Need-concerned-requires
+concerned-requires c κs = known (got-event (c .before .before))
 
 -- Where the copies were put.
 abbrev put : tie.After-concerned → tie.After-put-copy
@@ -92,12 +89,12 @@ returns c =
 possible-requires : tie.Need-possible-requires
 possible-requires c κs =
     let h = put (c .before) in
-    (machine h, continuable-fits (start h .pre))
+    (known (got-event h), continuable-fits (start h .pre))
 
 place-after-requires : tie.Need-place-after-requires
 place-after-requires c κs =
     let h = put (c .before .before .before) in
-    (start h .pre .ready .owner, (machine h, continuable-fits (start h .pre)))
+    (start h .pre .ready .owner, (known (got-event h), continuable-fits (start h .pre)))
 
 same-length-2 : tie.Need-same-length-2
 same-length-2 c = search needs

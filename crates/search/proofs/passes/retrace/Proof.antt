@@ -24,7 +24,7 @@ last-row-requires c κs = tt
 loop-holds : tie.Need-loop-holds Inv-loop μ-loop
 loop-holds c =
     let a = c .before .before .args in
-    retracing-none (a .site) (a .m) (a .w .now) (c .last-row .ensures .0) (c .last-row .ensures .1)
+    rw (c .last-row .ensures) (retracing-none (a .site) (a .m) (a .w .now))
 
 put-row-requires : tie.Need-put-row-requires Inv-loop μ-loop
 put-row-requires c κs =
@@ -88,7 +88,7 @@ returns-2 c =
     let step = c .before .before .before .before .before in
     let at = step .before .before .before .before .before .before .before in
     retraced-empty (at .before .before .before .pre) (made step)
-    (c .before .is-empty .ensures (c .if2 .taken))
+    (c .before .is-empty .ensures .0 (c .if2 .taken))
 
 loop-less : tie.Need-loop-less Inv-loop μ-loop
 loop-less c =

@@ -1,12 +1,11 @@
--- `search::passes::row_before` meets its contract: what is read is the event, by its machine.
-use mathlib.Core.Path.{sym, subst, subst₂}
+-- `search::passes::row_before` meets its contract: what is read is the event.
+use mathlib.Core.Path.{sym, subst₂}
 use borrow.Author.Needs.{needs}
 use Rattle.model.specs.Cxl0.{Value, Event}
-use Rattle.masks.specs.Sets.{OneToSix}
 use Rattle.rows.specs.Rows.{Closed}
 use Rattle.rows.specs.Sites.{copyAfter}
 use Rattle.rows.specs.Steps.{Stepped}
-use Rattle.walking.proofs.Events.{meant-read, machine-read}
+use Rattle.walking.proofs.Events.{meant-read}
 use Rattle.search.proofs.passes.row_before.Statement.{statement}
 use Rattle.search.proofs.passes.row_before.Tie as tie
 
@@ -22,13 +21,12 @@ row-step-requires c κs =
     let a = start .args in
     let x = a .site .location .0 in
     let e = c .before .get-event in
-    let machine = sym (machine-read (a .w .now) (a .t) (e .result) (e .ensures)) in
     let event = sym (meant-read (a .w .now) (a .t) (e .result) (e .ensures)) in
     let copy = sym (c .get-copy .ensures) in
     let pre = start .pre in
     let rest = a .rest in
     let closed = subst₂ (λ (u : Value) (e : Event). Closed (copyAfter x u e) rest) copy event (pre .closed) in
-    (pre .owner, (subst OneToSix machine (pre .machine), closed))
+    (pre .owner, (rw (e .ensures) (pre .known), closed))
 
 returns : tie.Need-returns
 returns c =

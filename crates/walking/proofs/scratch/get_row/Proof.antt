@@ -1,4 +1,4 @@
--- `search::scratch::get_row` meets its contract.
+-- `walking::scratch::get_row` meets its contract.
 use mathlib.Core.Path.{refl}
 use borrow.Author.Needs.{needs}
 use Rattle.walking.specs.Scratch.{rowIn}

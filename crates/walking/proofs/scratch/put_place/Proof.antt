@@ -1,4 +1,4 @@
--- `search::scratch::put_place` meets its contract.
+-- `walking::scratch::put_place` meets its contract.
 use native.Mathlib.Omega.{arith}
 use borrow.Author.Needs.{needs}
 use Rattle.walking.proofs.Access.{place-put}

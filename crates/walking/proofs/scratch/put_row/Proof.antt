@@ -1,4 +1,4 @@
--- `search::scratch::put_row` meets its contract.
+-- `walking::scratch::put_row` meets its contract.
 use native.Mathlib.Omega.{arith}
 use borrow.Author.Needs.{needs}
 use lib.ListN.{length-set}

@@ -1,18 +1,22 @@
--- The events of a system of at most six machines are by machines 1 to 6.
+-- The events of a system of at most six machines are known, if their operations are.
 use Prim.Native.Nat.{ℕ, zero, suc, _+_, _≤_, _<_}
 use native.Mathlib.Nat.{le-of-suc-le-suc, not-suc-le-zero, add-zero, zero-add}
 use native.Mathlib.Omega.{arith}
-use mathlib.Core.Path.{_≡_}
+use mathlib.Core.Path.{_≡_, refl}
 use mathlib.Core.Bool.{_&&_}
 use mathlib.Core.List.{List, map}
 use lib.Dec.{T}
 use Rattle.model.specs.Cxl0.{Machine, Location, Topology, isMachine, isLocation, named, allNamed, event}
 use Rattle.model.specs.Cxl0.{Event, LStore, RStore, MStore, Load, LFlush, RFlush, Crash}
+use Rattle.model.specs.Operations.{isOperation}
 use Rattle.model.proofs.Tests.{and-l, and-r}
 use Rattle.model.proofs.Expand.{machine-bounds}
 use Rattle.masks.specs.Sets.{OneToSix}
-use Rattle.rows.specs.Sites.{machineOf}
+use Rattle.rows.specs.Sites.{Known, machineOf}
+use Rattle.rows.proofs.Numbered.{machine-of}
 use Rattle.walking.specs.Scratch.{eventIn, eventsFrom, eventsIn}
+use Rattle.walking.specs.Access.{structIn}
+use Rattle.walking.proofs.Events.{meant-read}
 
 module _ (sys : Topology) (few : sys .machines ≤ 6) where
   by : (i : Machine) → T (isMachine sys i) → OneToSix i
@@ -44,7 +48,14 @@ module _ (sys : Topology) (few : sys .machines ≤ 6) where
       rw (← next)
       (machines-from w (suc j) m (and-r (named sys (event (eventIn w j))) rest t) k (le-of-suc-le-suc h))
 
-  -- Each of the first m events is by one of machines 1 to 6.
-  pub machines : (w : List ℕ) (m : ℕ) → T (allNamed sys (map event (eventsIn w m)))
-      → (j : ℕ) → j < m → OneToSix (machineOf (eventIn w j))
-  machines w m t j h = rw zero-add at (machines-from w 0 m t j h)
+  -- Each of the first m events is by one of machines 1 to 6, and so known if its operation is.
+  pub knowns : (w : List ℕ) (m : ℕ) → T (allNamed sys (map event (eventsIn w m)))
+      → ((j : ℕ) → j < m → T (isOperation (structIn w j .operation)))
+      → (j : ℕ) → j < m → Known (structIn w j)
+  knowns w m t operations j h =
+      let e = structIn w j in
+      let by : OneToSix (machineOf (eventIn w j)) = rw zero-add at (machines-from w 0 m t j h) in
+      record {
+        operation = operations j h;
+        machine = rw (← meant-read w j e refl, machine-of e) at by;
+      }
