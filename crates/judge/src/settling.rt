@@ -39,7 +39,13 @@ fn issue_allowed(out: &mut [u8], offset: usize, steps: &[u64]) -> Judged
 }
 
 // Issues a verdict on the events in the scratch area.
-pub fn settle(t: Topology, events: usize, out: &mut [u8], offset: usize, w: &mut [u64]) -> Judged
+pub(crate) fn settle(
+    t: Topology,
+    events: usize,
+    out: &mut [u8],
+    offset: usize,
+    w: &mut [u64],
+) -> Judged
     requires { ⌜ (room (now out) offset ≡ true) × Loaded t events (now w) ⌝ }
     ensures { λ r. ⌜ Settled (topologyOf t) (logged events (now (w .entry)))
         (now (out .entry)) offset (now (out .exit)) r ⌝ }

@@ -8,7 +8,7 @@ ghost use Rattle.model.specs.Cxl0.{isLocation};
 ghost use Rattle.model.specs.Meaning.{topologyOf, withinLimits};
 ghost use Rattle.rows.specs.Sites.{Describes};
 
-pub fn site_of(t: Topology, x: Location) -> Site
+pub(crate) fn site_of(t: Topology, x: Location) -> Site
     requires { ⌜ T (withinLimits t) × T (isLocation (topologyOf t) (x .0)) ⌝ }
     ensures { λ s. ⌜ Describes (topologyOf t) s × (s .location ≡ x) ⌝ }
 {

@@ -43,7 +43,7 @@ fn visit(w: &mut [u64], t: Topology, x: Location, all: usize, p: Progress) -> Pr
 }
 
 // Visits every location.
-pub fn visit_all(w: &mut [u64], t: Topology, events: usize) -> Progress
+pub(crate) fn visit_all(w: &mut [u64], t: Topology, events: usize) -> Progress
     requires { ⌜ Loaded t events (now w) ⌝ }
     ensures { λ r. ⌜ Visits t events (t .locations) (now (w .entry)) r (now (w .exit)) ⌝ }
 {

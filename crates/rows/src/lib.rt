@@ -1,9 +1,10 @@
 // Rows, line by line of the table of specs/Lines.antt. With `rest` the row after an event, a line's call
 // gives the row before it, and `gap_row` closes that under the silent steps of the gap before the event.
 //
-// Callers see to it that a machine's number is 1 to 6, that a code is below 64, that `rest` is closed, and that an
-// event is known: its operation is 1 LStore, 2 RStore, 3 MStore, 4 Load, 5 LFlush, 6 RFlush or 7 crash. The reader has
-// refused every other number, so that no event comes to the arms of these.
+// Internal: only crates of this project call it, and they meet what it requires. A machine's number is 1
+// to 6, a code is below 64, `rest` is closed, and an event is known: its operation is 1 LStore, 2 RStore, 3 MStore,
+// 4 Load, 5 LFlush, 6 RFlush or 7 crash. The reader has refused every other number, so that no event comes to the arms of
+// these.
 use masks::all;
 use masks::all_but_empty;
 use masks::alone;

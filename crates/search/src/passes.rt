@@ -43,7 +43,7 @@ fn has_place(w: &[u64], t: usize, row: Row) -> bool
 
 // The last of the m events from which the rest of them can be finished, when the walk goes on from the place before
 // it; or m if there is none.
-pub fn retrace(w: &mut [u64], site: Site, m: usize) -> usize
+pub(crate) fn retrace(w: &mut [u64], site: Site, m: usize) -> usize
     requires { ⌜ Retraceable site m (now w) ⌝ }
     ensures { λ r. ⌜ Retraced site m (now (w .entry)) r (now (w .exit)) ⌝ }
 {

@@ -1,8 +1,9 @@
 // The walk of one location over rows: before each event, the silent steps that lead to a state from which the event
 // is possible and the events after it can be finished.
 //
-// Callers see to it that the rows are there, that the events have a run from the place where the walk begins, and that
-// they are known, so that none comes to the arms of refused operations.
+// Internal: only crates of this project call it, and they meet what it requires. The rows are there, the
+// events have a run from the place where the walk begins, and they are known, so that none comes to the arms of refused
+// operations.
 use crate::scratch::get_copy;
 use crate::scratch::get_event;
 use crate::scratch::get_row;
