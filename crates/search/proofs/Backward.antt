@@ -116,7 +116,7 @@ module _ {s : Site} {m t : ℕ} {w w' w'' : List ℕ} {row : Row} (ready : Ready
           room = omega (arith, ready .room, frame-put .frame .sized);
           few = omega (arith, ready .few, below);
           owner = ready .owner;
-          known = rw (struct-same (frame-put .frame) d (omega (arith, ready .few, written .bound))) (ready .known d below);
+          known = rw (struct-same (frame-put .frame) d (omega (arith, ready .few, below))) (ready .known d below);
           closed = rw (frame-put .copies d, same, after) (rest .closed);
         }
 
