@@ -6,14 +6,8 @@ use Rattle.capi.proofs.Sizes.{recorded-fits}
 use Rattle.capi.proofs.cxl0_record.Statement.{statement}
 use Rattle.capi.proofs.cxl0_record.Tie as tie
 
-record-requires : tie.Need-record-requires
-record-requires c κs = search needs
-
 pack-recorded-requires : tie.Need-pack-recorded-requires
 pack-recorded-requires c κs = recorded-fits _ _ _ _ _ (c .before .before .«record» .ensures .0)
-
-same-length : tie.Need-same-length
-same-length c = search needs
 
 returns : tie.Need-returns
 returns c =
@@ -21,4 +15,4 @@ returns c =
     (c .pack-recorded .ensures ∙ ap packRecorded (r .0), r .1)
 
 pub cxl0-record-spec : {M : Type 1} → statement M
-cxl0-record-spec = tie.close (tie.spec record-requires pack-recorded-requires same-length returns)
+cxl0-record-spec = tie.close (tie.spec (λ c κs. search needs) pack-recorded-requires (λ c. search needs) returns)

@@ -5,14 +5,8 @@ use Rattle.capi.specs.Packing.{packReplayed}
 use Rattle.capi.proofs.cxl0_replay.Statement.{statement}
 use Rattle.capi.proofs.cxl0_replay.Tie as tie
 
-replay-requires : tie.Need-replay-requires
-replay-requires c κs = search needs
-
-pack-replayed-requires : tie.Need-pack-replayed-requires
-pack-replayed-requires c κs = search needs
-
 returns : tie.Need-returns
 returns c = c .pack-replayed .ensures ∙ ap packReplayed (c .before .replay .ensures)
 
 pub cxl0-replay-spec : {M : Type 1} → statement M
-cxl0-replay-spec = tie.close (tie.spec replay-requires pack-replayed-requires returns)
+cxl0-replay-spec = tie.close (tie.spec (λ c κs. search needs) (λ c κs. search needs) returns)

@@ -11,29 +11,14 @@ slice-aggregate-run-case c = simp length-take (omega arith)
 slice-aggregate-run-case-2 : tie.Need-slice-aggregate-run-case-2
 slice-aggregate-run-case-2 c = simp length-take (omega arith)
 
-run-case-requires : tie.Need-run-case-requires
-run-case-requires c κs = search needs
-
-returns : tie.Need-returns
-returns c = search needs
-
-slice-aggregate-say : tie.Need-slice-aggregate-say
-slice-aggregate-say c = search needs
-
-say-requires : tie.Need-say-requires
-say-requires c κs = search needs
-
-returns-2 : tie.Need-returns-2
-returns-2 c = search needs
-
 pub case-line-spec : {M : Type 1} → statement M
 case-line-spec =
     tie.close
     (tie.spec
     slice-aggregate-run-case
     slice-aggregate-run-case-2
-    run-case-requires
-    returns
-    slice-aggregate-say
-    say-requires
-    returns-2)
+    (λ c κs. search needs)
+    (λ c. search needs)
+    (λ c. search needs)
+    (λ c κs. search needs)
+    (λ c. search needs))

@@ -11,12 +11,6 @@ use Rattle.masks.proofs.Codes.{insert-fits}
 use Rattle.masks.proofs.alone.Statement.{statement}
 use Rattle.masks.proofs.alone.Tie as tie
 
-sub-result : tie.Need-sub-result
-sub-result c = search needs
-
-shl-result : tie.Need-shl-result
-shl-result c = search needs
-
 returns : tie.Need-returns
 unfolding everyMachine insert
 returns c =
@@ -27,4 +21,4 @@ returns c =
     (e, rw e (insert-fits i 0 pre (omega arith)))
 
 pub alone-spec : {M : Type 1} → statement M
-alone-spec = tie.close (tie.spec sub-result shl-result returns)
+alone-spec = tie.close (tie.spec (λ c. search needs) (λ c. search needs) returns)

@@ -6,11 +6,8 @@ use lib.Bits.{and-mask}
 use Rattle.masks.proofs.contains.Statement.{statement}
 use Rattle.masks.proofs.contains.Tie as tie
 
-shr-result : tie.Need-shr-result
-shr-result c = search needs
-
 returns : tie.Need-returns
 returns c = rw (and-mask (c .args .m / 2 ^ c .args .c) 1) (eqb-true _ _, eq-eqb _ _)
 
 pub contains-spec : {M : Type 1} → statement M
-contains-spec = tie.close (tie.spec shr-result returns)
+contains-spec = tie.close (tie.spec (λ c. search needs) returns)

@@ -4,18 +4,6 @@ use Rattle.masks.proofs.Shifts.{shifted-up}
 use Rattle.masks.proofs.giving_up.Statement.{statement}
 use Rattle.masks.proofs.giving_up.Tie as tie
 
-lacking-requires : tie.Need-lacking-requires
-lacking-requires c κs = search needs
-
-alone-requires : tie.Need-alone-requires
-alone-requires c κs = search needs
-
-cast-result : tie.Need-cast-result
-cast-result c = search needs
-
-shl-result : tie.Need-shl-result
-shl-result c = search needs
-
 returns : tie.Need-returns
 returns c =
     let start = c .before .before in
@@ -24,4 +12,4 @@ returns c =
     (shifted-up (start .args .i .0) (start .pre) (start .args .m) (lack .result) (lack .ensures))
 
 pub giving-up-spec : {M : Type 1} → statement M
-giving-up-spec = tie.close (tie.spec lacking-requires alone-requires cast-result shl-result returns)
+giving-up-spec = tie.close (tie.spec (λ c κs. search needs) (λ c κs. search needs) (λ c. search needs) (λ c. search needs) returns)

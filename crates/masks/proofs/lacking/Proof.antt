@@ -8,9 +8,6 @@ use Rattle.masks.proofs.Sets.{in-and, in-not}
 use Rattle.masks.proofs.lacking.Statement.{statement}
 use Rattle.masks.proofs.lacking.Tie as tie
 
-holding-requires : tie.Need-holding-requires
-holding-requires c κs = search needs
-
 returns : tie.Need-returns
 returns c t h =
     let m = c .before .args .m in
@@ -21,4 +18,4 @@ returns c t h =
     (Iff·and Iff·rfl (Iff·trans outside (not-T (has i t), T-not (has i t))))
 
 pub lacking-spec : {M : Type 1} → statement M
-lacking-spec = tie.close (tie.spec holding-requires returns)
+lacking-spec = tie.close (tie.spec (λ c κs. search needs) returns)

@@ -4,12 +4,6 @@ use Rattle.masks.proofs.Shifts.{losing}
 use Rattle.masks.proofs.losing.Statement.{statement}
 use Rattle.masks.proofs.losing.Tie as tie
 
-lacking-requires : tie.Need-lacking-requires
-lacking-requires c κs = search needs
-
-giving-up-requires : tie.Need-giving-up-requires
-giving-up-requires c κs = search needs
-
 returns : tie.Need-returns
 returns c =
     let args = c .before .before .args in
@@ -18,4 +12,4 @@ returns c =
     losing (args .i .0) (args .m) (lack .result) (give .result) (lack .ensures) (give .ensures)
 
 pub losing-spec : {M : Type 1} → statement M
-losing-spec = tie.close (tie.spec lacking-requires giving-up-requires returns)
+losing-spec = tie.close (tie.spec (λ c κs. search needs) (λ c κs. search needs) returns)

@@ -4,11 +4,8 @@ use Rattle.masks.proofs.Sets.{in-single}
 use Rattle.masks.proofs.single.Statement.{statement}
 use Rattle.masks.proofs.single.Tie as tie
 
-shl-result : tie.Need-shl-result
-shl-result c = search needs
-
 returns : tie.Need-returns
 returns c t h = in-single 64 (c .args .c) t h
 
 pub single-spec : {M : Type 1} → statement M
-single-spec = tie.close (tie.spec shl-result returns)
+single-spec = tie.close (tie.spec (λ c. search needs) returns)

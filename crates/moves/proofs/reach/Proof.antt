@@ -9,9 +9,6 @@ use Rattle.moves.proofs.Chains.{reached, none}
 use Rattle.moves.proofs.reach.Statement.{statement}
 use Rattle.moves.proofs.reach.Tie as tie
 
-cast-k : tie.Need-cast-k
-cast-k c = search needs
-
 returns : tie.Need-returns
 returns c = none _ _ (λ l h b. omega arith)
 
@@ -20,18 +17,6 @@ returns-2 c = none _ _ (λ l h b. omega arith)
 
 returns-3 : tie.Need-returns-3
 returns-3 c = none _ _ (λ l h b. omega arith)
-
-mul-at : tie.Need-mul-at
-mul-at c = search needs
-
-add-at : tie.Need-add-at
-add-at c = search needs
-
-mul-result : tie.Need-mul-result
-mul-result c = search needs
-
-array-read-result : tie.Need-array-read-result
-array-read-result c = search needs
 
 returns-4 : tie.Need-returns-4
 unfolding number entries table moved has insert remove
@@ -43,12 +28,12 @@ pub reach-spec : {M : Type 1} → statement M
 reach-spec =
     tie.close
     (tie.spec
-    cast-k
+    (λ c. search needs)
     returns
     returns-2
     returns-3
-    mul-at
-    add-at
-    mul-result
-    array-read-result
+    (λ c. search needs)
+    (λ c. search needs)
+    (λ c. search needs)
+    (λ c. search needs)
     returns-4)

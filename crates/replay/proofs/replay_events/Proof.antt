@@ -20,18 +20,6 @@ use borrow.Author.Needs.{needs}
 use Rattle.replay.proofs.replay_events.Statement.{statement}
 use Rattle.replay.proofs.replay_events.Tie as tie
 
-open-requires : tie.Need-open-requires
-open-requires c κs = search needs
-
-read-schedule-requires : tie.Need-read-schedule-requires
-read-schedule-requires c κs = search needs
-
-enum-known-steps : tie.Need-enum-known-steps
-enum-known-steps c = search needs
-
-cast-ahead : tie.Need-cast-ahead
-cast-ahead c = search needs
-
 -- What is open of an accepted log.
 opens : (c : tie.After-open) (r : Records)
     → let a = c .before .before .before .args in
@@ -51,15 +39,6 @@ told c = ap scheduledOf (sym (c .steps .given .1)) ∙ c .before .before .read-s
 
 add-ahead : tie.Need-add-ahead
 add-ahead c = omega (arith, count-few _ _ _ _ (told (c .before .before)))
-
-start-requires : tie.Need-start-requires
-start-requires c κs = search needs
-
-walk-requires : tie.Need-walk-requires
-walk-requires c κs = search needs
-
-enum-known-why : tie.Need-enum-known-why
-enum-known-why c = search needs
 
 returns : tie.Need-returns
 returns c = λ r e h.
@@ -84,13 +63,13 @@ pub replay-events-spec : {M : Type 1} → statement M
 replay-events-spec =
     tie.close
     (tie.spec
-    open-requires
-    read-schedule-requires
-    enum-known-steps
-    cast-ahead
+    (λ c κs. search needs)
+    (λ c κs. search needs)
+    (λ c. search needs)
+    (λ c. search needs)
     add-ahead
-    start-requires
-    walk-requires
-    enum-known-why
+    (λ c κs. search needs)
+    (λ c κs. search needs)
+    (λ c. search needs)
     returns
     returns-2)

@@ -8,15 +8,6 @@ use Rattle.rows.proofs.FineRows.{row-of, any-of}
 use Rattle.rows.proofs.crash_row.Statement.{statement}
 use Rattle.rows.proofs.crash_row.Tie as tie
 
-codes-requires : tie.Need-codes-requires
-codes-requires c κs = search needs
-
-losing-requires : tie.Need-losing-requires
-losing-requires c κs = search needs
-
-any-row-requires : tie.Need-any-row-requires
-any-row-requires c κs = search needs
-
 returns : tie.Need-returns
 returns c =
     let i = c .before .before .before .before .args .i .0 in
@@ -26,12 +17,6 @@ returns c =
     (any-of (lost .result) _ (c .any-row .result)
     (λ d h. Iff·trans (lost .ensures d h) (codes .ensures (remove i d) (lt-of-le-of-lt (remove-le i d) h)))
     (c .any-row .ensures))
-
-losing-requires-2 : tie.Need-losing-requires-2
-losing-requires-2 c κs = search needs
-
-losing-requires-3 : tie.Need-losing-requires-3
-losing-requires-3 c κs = search needs
 
 returns-2 : tie.Need-returns-2
 returns-2 c =
@@ -45,10 +30,10 @@ pub crash-row-spec : {M : Type 1} → statement M
 crash-row-spec =
     tie.close
     (tie.spec
-    codes-requires
-    losing-requires
-    any-row-requires
+    (λ c κs. search needs)
+    (λ c κs. search needs)
+    (λ c κs. search needs)
     returns
-    losing-requires-2
-    losing-requires-3
+    (λ c κs. search needs)
+    (λ c κs. search needs)
     returns-2)

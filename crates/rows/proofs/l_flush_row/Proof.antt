@@ -7,12 +7,6 @@ use Rattle.rows.proofs.FineRows.{row-if}
 use Rattle.rows.proofs.l_flush_row.Statement.{statement}
 use Rattle.rows.proofs.l_flush_row.Tie as tie
 
-lacking-requires : tie.Need-lacking-requires
-lacking-requires c κs = search needs
-
-lacking-requires-2 : tie.Need-lacking-requires-2
-lacking-requires-2 c κs = search needs
-
 returns : tie.Need-returns
 returns c =
     let args = c .before .before .args in
@@ -22,4 +16,4 @@ returns c =
     (any .ensures) (one .ensures)
 
 pub l-flush-row-spec : {M : Type 1} → statement M
-l-flush-row-spec = tie.close (tie.spec lacking-requires lacking-requires-2 returns)
+l-flush-row-spec = tie.close (tie.spec (λ c κs. search needs) (λ c κs. search needs) returns)

@@ -7,15 +7,6 @@ use Rattle.rows.proofs.FineRows.{exactly-and, row-if}
 use Rattle.rows.proofs.load_copies_row.Statement.{statement}
 use Rattle.rows.proofs.load_copies_row.Tie as tie
 
-all-but-empty-requires : tie.Need-all-but-empty-requires
-all-but-empty-requires c κs = search needs
-
-gaining-requires : tie.Need-gaining-requires
-gaining-requires c κs = search needs
-
-gaining-requires-2 : tie.Need-gaining-requires-2
-gaining-requires-2 c κs = search needs
-
 returns : tie.Need-returns
 returns c =
     let args = c .before .before .before .args in
@@ -29,4 +20,4 @@ returns c =
 
 pub load-copies-row-spec : {M : Type 1} → statement M
 load-copies-row-spec =
-    tie.close (tie.spec all-but-empty-requires gaining-requires gaining-requires-2 returns)
+    tie.close (tie.spec (λ c κs. search needs) (λ c κs. search needs) (λ c κs. search needs) returns)

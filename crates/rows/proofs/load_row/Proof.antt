@@ -9,18 +9,6 @@ use Rattle.rows.proofs.Loads.{from-memory, from-copies, from-nothing}
 use Rattle.rows.proofs.load_row.Statement.{statement}
 use Rattle.rows.proofs.load_row.Tie as tie
 
-fine-requires : tie.Need-fine-requires
-fine-requires c κs = search needs
-
-all-but-empty-requires : tie.Need-all-but-empty-requires
-all-but-empty-requires c κs = search needs
-
-only-if-requires : tie.Need-only-if-requires
-only-if-requires c κs = search needs
-
-single-requires : tie.Need-single-requires
-single-requires c κs = search needs
-
 abbrev start : tie.After-fine → tie.Start
 start h = h .before
 
@@ -40,18 +28,12 @@ returns c sys x y =
     (λ d h. Iff·trans (only .ensures d h) (Iff·and (some .ensures d h) (eqb-true _ _, eq-eqb _ _)))
     (c .single .ensures)
 
-load-copies-row-requires : tie.Need-load-copies-row-requires
-load-copies-row-requires c κs = search needs
-
 returns-2 : tie.Need-returns-2
 returns-2 c sys x y =
     let other = c .before .before in
     let args = start (other .before) .args in
     from-copies (args .rest) (args .i .0) (args .u) (args .v) (stuck other) (c .load-copies-row .result)
     (c .before .if2 .taken) (c .load-copies-row .ensures)
-
-any-row-requires : tie.Need-any-row-requires
-any-row-requires c κs = search needs
 
 returns-3 : tie.Need-returns-3
 returns-3 c sys x y =
@@ -64,12 +46,12 @@ pub load-row-spec : {M : Type 1} → statement M
 load-row-spec =
     tie.close
     (tie.spec
-    fine-requires
-    all-but-empty-requires
-    only-if-requires
-    single-requires
+    (λ c κs. search needs)
+    (λ c κs. search needs)
+    (λ c κs. search needs)
+    (λ c κs. search needs)
     returns
-    load-copies-row-requires
+    (λ c κs. search needs)
     returns-2
-    any-row-requires
+    (λ c κs. search needs)
     returns-3)

@@ -5,15 +5,6 @@ use Rattle.rows.proofs.FineRows.{any-of}
 use Rattle.rows.proofs.m_store_row.Statement.{statement}
 use Rattle.rows.proofs.m_store_row.Tie as tie
 
-fine-requires : tie.Need-fine-requires
-fine-requires c κs = search needs
-
-all-if-requires : tie.Need-all-if-requires
-all-if-requires c κs = search needs
-
-any-row-requires : tie.Need-any-row-requires
-any-row-requires c κs = search needs
-
 returns : tie.Need-returns
 returns c =
     let all = c .before .all-if in
@@ -22,4 +13,4 @@ returns c =
     (c .any-row .ensures)
 
 pub m-store-row-spec : {M : Type 1} → statement M
-m-store-row-spec = tie.close (tie.spec fine-requires all-if-requires any-row-requires returns)
+m-store-row-spec = tie.close (tie.spec (λ c κs. search needs) (λ c κs. search needs) (λ c κs. search needs) returns)

@@ -8,9 +8,6 @@ use Rattle.rows.proofs.FineRows.{exactly-and, row-if}
 use Rattle.rows.proofs.r_flush_row.Statement.{statement}
 use Rattle.rows.proofs.r_flush_row.Tie as tie
 
-single-requires : tie.Need-single-requires
-single-requires c κs = search needs
-
 returns : tie.Need-returns
 returns c =
     let rest = c .before .before .before .args .rest in
@@ -20,4 +17,4 @@ returns c =
     (exactly-and (rest .one) (none .result) (λ d. In d (rest .one)) _ (λ d h. Iff·rfl) (none .ensures))
 
 pub r-flush-row-spec : {M : Type 1} → statement M
-r-flush-row-spec = tie.close (tie.spec single-requires returns)
+r-flush-row-spec = tie.close (tie.spec (λ c κs. search needs) returns)

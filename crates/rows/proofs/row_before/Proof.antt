@@ -7,35 +7,11 @@ use Rattle.rows.proofs.Numbered.{operation-range, no-other}
 use Rattle.rows.proofs.row_before.Statement.{statement}
 use Rattle.rows.proofs.row_before.Tie as tie
 
-alone-requires : tie.Need-alone-requires
-alone-requires c κs = search needs
-
-store-row-requires : tie.Need-store-row-requires
-store-row-requires c κs = search needs
-
-alone-requires-2 : tie.Need-alone-requires-2
-alone-requires-2 c κs = search needs
-
-store-row-requires-2 : tie.Need-store-row-requires-2
-store-row-requires-2 c κs = search needs
-
-m-store-row-requires : tie.Need-m-store-row-requires
-m-store-row-requires c κs = search needs
-
 load-row-requires : tie.Need-load-row-requires
 unfolding eventOf copyAfter
 load-row-requires c κs =
     let pre = c .before .before .pre in
     (pre .1 .0 .machine, rw (c .match .keys4) at (pre .1 .1))
-
-l-flush-row-requires : tie.Need-l-flush-row-requires
-l-flush-row-requires c κs = search needs
-
-r-flush-row-requires : tie.Need-r-flush-row-requires
-r-flush-row-requires c κs = search needs
-
-crash-row-requires : tie.Need-crash-row-requires
-crash-row-requires c κs = search needs
 
 returns : tie.Need-returns
 unfolding eventOf
@@ -85,15 +61,15 @@ pub row-before-spec : {M : Type 1} → statement M
 row-before-spec =
     tie.close
     (tie.spec
-    alone-requires
-    store-row-requires
-    alone-requires-2
-    store-row-requires-2
-    m-store-row-requires
+    (λ c κs. search needs)
+    (λ c κs. search needs)
+    (λ c κs. search needs)
+    (λ c κs. search needs)
+    (λ c κs. search needs)
     load-row-requires
-    l-flush-row-requires
-    r-flush-row-requires
-    crash-row-requires
+    (λ c κs. search needs)
+    (λ c κs. search needs)
+    (λ c κs. search needs)
     returns
     returns-2
     returns-3

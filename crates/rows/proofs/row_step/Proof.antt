@@ -9,15 +9,6 @@ use Rattle.rows.proofs.RowSteps.{stepped, skipped}
 use Rattle.rows.proofs.row_step.Statement.{statement}
 use Rattle.rows.proofs.row_step.Tie as tie
 
-concerned-requires : tie.Need-concerned-requires
-concerned-requires c κs = search needs
-
-row-before-requires : tie.Need-row-before-requires
-row-before-requires c κs = search needs
-
-gap-row-requires : tie.Need-gap-row-requires
-gap-row-requires c κs = search needs
-
 returns : tie.Need-returns
 returns c =
     let start = c .before .before .before .before in
@@ -39,4 +30,4 @@ returns-2 c =
 
 pub row-step-spec : {M : Type 1} → statement M
 row-step-spec =
-    tie.close (tie.spec concerned-requires row-before-requires gap-row-requires returns returns-2)
+    tie.close (tie.spec (λ c κs. search needs) (λ c κs. search needs) (λ c κs. search needs) returns returns-2)

@@ -5,18 +5,6 @@ use Rattle.rows.proofs.FineRows.{row-of}
 use Rattle.rows.proofs.store_row.Statement.{statement}
 use Rattle.rows.proofs.store_row.Tie as tie
 
-contains-requires : tie.Need-contains-requires
-contains-requires c κs = search needs
-
-all-if-requires : tie.Need-all-if-requires
-all-if-requires c κs = search needs
-
-contains-requires-2 : tie.Need-contains-requires-2
-contains-requires-2 c κs = search needs
-
-all-if-requires-2 : tie.Need-all-if-requires-2
-all-if-requires-2 c κs = search needs
-
 returns : tie.Need-returns
 returns c =
     let rest = c .before .before .before .before .args .rest in
@@ -30,4 +18,4 @@ returns c =
 pub store-row-spec : {M : Type 1} → statement M
 store-row-spec =
     tie.close
-    (tie.spec contains-requires all-if-requires contains-requires-2 all-if-requires-2 returns)
+    (tie.spec (λ c κs. search needs) (λ c κs. search needs) (λ c κs. search needs) (λ c κs. search needs) returns)

@@ -20,18 +20,6 @@ returns : tie.Need-returns
 unfolding stepAt firstStep begins
 returns c = rw (drop-of-length-le (now (c .before .before .args .file)) (le-of-lt (c .if1 .taken)))
 
-sub-rest : tie.Need-sub-rest
-sub-rest c = search needs
-
-part-rest-start : tie.Need-part-rest-start
-part-rest-start c = search needs
-
-part-rest-end : tie.Need-part-rest-end
-part-rest-end c = search needs
-
-begins-with-requires : tie.Need-begins-with-requires
-begins-with-requires c κs = search needs
-
 returns-2 : tie.Need-returns-2
 unfolding stepAt firstStep
 returns-2 c =
@@ -57,9 +45,6 @@ shared-slice-read-t13 c = omega (arith, long 0x11 3 _ (whole (c .before .before)
 shared-slice-read-t16 : tie.Need-shared-slice-read-t16
 shared-slice-read-t16 c = omega (arith, long 0x11 3 _ (whole (c .before .before .before)))
 
-add-t5 : tie.Need-add-t5
-add-t5 c = search needs
-
 returns-3 : tie.Need-returns-3
 unfolding stepAt firstStep
 returns-3 c =
@@ -73,13 +58,13 @@ step-at-spec =
     tie.close
     (tie.spec
     returns
-    sub-rest
-    part-rest-start
-    part-rest-end
-    begins-with-requires
+    (λ c. search needs)
+    (λ c. search needs)
+    (λ c. search needs)
+    (λ c κs. search needs)
     returns-2
     shared-slice-read-t11
     shared-slice-read-t13
     shared-slice-read-t16
-    add-t5
+    (λ c. search needs)
     returns-3)

@@ -5,9 +5,6 @@ use Rattle.text.proofs.Values.{digit-inside, digit-below, digit-above}
 use Rattle.text.proofs.digit_value.Statement.{statement}
 use Rattle.text.proofs.digit_value.Tie as tie
 
-cast-result : tie.Need-cast-result
-cast-result c = search needs
-
 returns : tie.Need-returns
 returns c = sym (digit-inside _ (c .before .if1 .left) (c .if2 .taken))
 
@@ -18,4 +15,4 @@ returns-3 : tie.Need-returns-3
 returns-3 c = sym (digit-above _ (c .if2 .left))
 
 pub digit-value-spec : {M : Type 1} → statement M
-digit-value-spec = tie.close (tie.spec cast-result returns returns-2 returns-3)
+digit-value-spec = tie.close (tie.spec (λ c. search needs) returns returns-2 returns-3)

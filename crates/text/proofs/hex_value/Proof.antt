@@ -5,9 +5,6 @@ use Rattle.text.proofs.Values.{hex-number, hex-letter, hex-below, hex-b
 use Rattle.text.proofs.hex_value.Statement.{statement}
 use Rattle.text.proofs.hex_value.Tie as tie
 
-add-result : tie.Need-add-result
-add-result c = search needs
-
 returns : tie.Need-returns
 returns c = sym (hex-number _ (c .before .if1 .left) (c .if2 .taken))
 
@@ -24,4 +21,4 @@ returns-5 : tie.Need-returns-5
 returns-5 c = sym (hex-above _ (c .if4 .left))
 
 pub hex-value-spec : {M : Type 1} → statement M
-hex-value-spec = tie.close (tie.spec add-result returns returns-2 returns-3 returns-4 returns-5)
+hex-value-spec = tie.close (tie.spec (λ c. search needs) returns returns-2 returns-3 returns-4 returns-5)

@@ -16,9 +16,6 @@ use Rattle.verdict_file.proofs.Writing.{has-room, no-room, no-form, fil
 use Rattle.verdict_file.proofs.write_impossible.Statement.{statement}
 use Rattle.verdict_file.proofs.write_impossible.Tie as tie
 
-has-room-requires : tie.Need-has-room-requires
-has-room-requires c κs = search needs
-
 returns : tie.Need-returns
 unfolding room
 returns c =
@@ -44,9 +41,6 @@ enough c = sym (c .before .has-room .ensures) ∙ not-false _ (c .if1 .left)
 fits : (c : tie.Else1) → offset c + fileMost ≤ length (out c)
 fits c = has-room (out c) (offset c) (enough c)
 
-is-event-requires : tie.Need-is-event-requires
-is-event-requires c κs = search needs
-
 returns-2 : tie.Need-returns-2
 returns-2 c =
     let d = c .before .before in
@@ -71,9 +65,6 @@ fill-impossible-requires c κs =
     let d = c .before .before .before in
     omega (arith, fits d, length-part (out d) (offset d))
 
-same-length : tie.Need-same-length
-same-length c = search needs
-
 returns-3 : tie.Need-returns-3
 returns-3 c =
     let fill = c .before .before .fill-impossible .ensures in
@@ -86,13 +77,13 @@ pub write-impossible-spec : {M : Type 1} → statement M
 write-impossible-spec =
     tie.close
     (tie.spec
-    has-room-requires
+    (λ c κs. search needs)
     returns
-    is-event-requires
+    (λ c κs. search needs)
     returns-2
     sub-part
     part-part-start
     part-part-end
     fill-impossible-requires
-    same-length
+    (λ c. search needs)
     returns-3)

@@ -9,18 +9,6 @@ use Rattle.walking.proofs.Holders.{with-bit, without-bit}
 use Rattle.walking.proofs.code_after.Statement.{statement}
 use Rattle.walking.proofs.code_after.Tie as tie
 
-alone-requires : tie.Need-alone-requires
-alone-requires c κs = search needs
-
-alone-requires-2 : tie.Need-alone-requires-2
-alone-requires-2 c κs = search needs
-
-alone-requires-3 : tie.Need-alone-requires-3
-alone-requires-3 c κs = search needs
-
-alone-requires-4 : tie.Need-alone-requires-4
-alone-requires-4 c κs = search needs
-
 returns : tie.Need-returns
 unfolding eventOf codeAfter
 returns c = rw (c .before .match .keys1) (c .alone .ensures .0)
@@ -74,10 +62,10 @@ pub code-after-spec : {M : Type 1} → statement M
 code-after-spec =
     tie.close
     (tie.spec
-    alone-requires
-    alone-requires-2
-    alone-requires-3
-    alone-requires-4
+    (λ c κs. search needs)
+    (λ c κs. search needs)
+    (λ c κs. search needs)
+    (λ c κs. search needs)
     returns
     returns-2
     returns-3

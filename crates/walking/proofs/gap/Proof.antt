@@ -15,9 +15,6 @@ use Rattle.walking.proofs.Entering.{enters-moves, enters-written, enter
 use Rattle.walking.proofs.gap.Statement.{statement}
 use Rattle.walking.proofs.gap.Tie as tie
 
-fine-requires : tie.Need-fine-requires
-fine-requires c κs = search needs
-
 -- The row has the place.
 returns : tie.Need-returns
 returns c =
@@ -31,9 +28,6 @@ returns c =
       },
       c .before .fine .ensures .0 (c .if1 .taken),
     )
-
-codes-requires : tie.Need-codes-requires
-codes-requires c κs = search needs
 
 -- Where the row has no code but 0 at the place's memory value, a write-back leads into it.
 drained : (h : tie.Then2) → let a : _ = h .before .before .before .before .before .args in
@@ -53,20 +47,11 @@ write-back-requires c κs =
     let w = drained (c .before) in
     (omega arith, (omega arith, (omega arith, w .0)))
 
-same-length : tie.Need-same-length
-same-length c = search needs
-
 returns-2 : tie.Need-returns-2
 returns-2 c =
     let back = c .before .before in
     let state = back .write-back .ensures .1 in
     (back .write-back .ensures .0, rw (state .0, state .1) (drained (back .before .before) .1))
-
-reach-requires : tie.Need-reach-requires
-reach-requires c κs = search needs
-
-lowest-requires : tie.Need-lowest-requires
-lowest-requires c κs = search needs
 
 -- The least code of both sets is one that moves reach and the row has.
 entered : (h : tie.After-lowest)
@@ -84,9 +69,6 @@ entered h =
 
 move-to-requires : tie.Need-move-to-requires
 move-to-requires c κs = (omega arith, (omega arith, entered (c .before) .0))
-
-same-length-2 : tie.Need-same-length-2
-same-length-2 c = search needs
 
 -- Moves lead to a code that the row has.
 returns-3 : tie.Need-returns-3
@@ -124,9 +106,6 @@ write-back-requires-2 c κs =
     let w = written (c .before) in
     (omega arith, (omega arith, (omega arith, w .0)))
 
-same-length-3 : tie.Need-same-length-3
-same-length-3 c = search needs
-
 returns-4 : tie.Need-returns-4
 returns-4 c =
     let back = c .before .before in
@@ -138,17 +117,17 @@ pub gap-spec : {M : Type 1} → statement M
 gap-spec =
     tie.close
     (tie.spec
-    fine-requires
+    (λ c κs. search needs)
     returns
-    codes-requires
+    (λ c κs. search needs)
     write-back-requires
-    same-length
+    (λ c. search needs)
     returns-2
-    reach-requires
-    lowest-requires
+    (λ c κs. search needs)
+    (λ c κs. search needs)
     move-to-requires
-    same-length-2
+    (λ c. search needs)
     returns-3
     write-back-requires-2
-    same-length-3
+    (λ c. search needs)
     returns-4)

@@ -4,15 +4,9 @@ use Rattle.walking.specs.Trails.{givesUp}
 use Rattle.walking.proofs.gives_up.Statement.{statement}
 use Rattle.walking.proofs.gives_up.Tie as tie
 
-holds-requires : tie.Need-holds-requires
-holds-requires c κs = search needs
-
-holds-requires-2 : tie.Need-holds-requires-2
-holds-requires-2 c κs = search needs
-
 returns : tie.Need-returns
 unfolding givesUp
 returns c = rw (c .before .holds .ensures, c .holds2 .ensures)
 
 pub gives-up-spec : {M : Type 1} → statement M
-gives-up-spec = tie.close (tie.spec holds-requires holds-requires-2 returns)
+gives-up-spec = tie.close (tie.spec (λ c κs. search needs) (λ c κs. search needs) returns)

@@ -4,14 +4,8 @@ use borrow.Author.Needs.{needs}
 use Rattle.walking.proofs.place_after.Statement.{statement}
 use Rattle.walking.proofs.place_after.Tie as tie
 
-code-after-requires : tie.Need-code-after-requires
-code-after-requires c κs = search needs
-
-memory-after-requires : tie.Need-memory-after-requires
-memory-after-requires c κs = search needs
-
 returns : tie.Need-returns
 returns c = rw (c .before .code-after .ensures, c .memory-after .ensures) refl
 
 pub place-after-spec : {M : Type 1} → statement M
-place-after-spec = tie.close (tie.spec code-after-requires memory-after-requires returns)
+place-after-spec = tie.close (tie.spec (λ c κs. search needs) (λ c κs. search needs) returns)

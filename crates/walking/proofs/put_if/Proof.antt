@@ -4,18 +4,6 @@ use Rattle.walking.proofs.Stored.{stored-none, stored-one}
 use Rattle.walking.proofs.put_if.Statement.{statement}
 use Rattle.walking.proofs.put_if.Tie as tie
 
-mul-w : tie.Need-mul-w
-mul-w c = search needs
-
-slice-write-w : tie.Need-slice-write-w
-slice-write-w c = search needs
-
-add-result : tie.Need-add-result
-add-result c = search needs
-
-same-length : tie.Need-same-length
-same-length c = search needs
-
 returns : tie.Need-returns
 returns c = let a = c .before .args in rw (c .if1 .taken) (stored-one (a .w .now) (a .at) (a .word))
 
@@ -23,4 +11,4 @@ returns-2 : tie.Need-returns-2
 returns-2 c = let a = c .before .args in rw (c .if1 .left) (stored-none (a .w .now) (a .at))
 
 pub put-if-spec : {M : Type 1} → statement M
-put-if-spec = tie.close (tie.spec mul-w slice-write-w add-result same-length returns returns-2)
+put-if-spec = tie.close (tie.spec (λ c. search needs) (λ c. search needs) (λ c. search needs) (λ c. search needs) returns returns-2)

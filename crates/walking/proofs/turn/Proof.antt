@@ -17,18 +17,6 @@ use Rattle.walking.proofs.Turns.{turned-elsewhere, turn-enters, turned-
 use Rattle.walking.proofs.turn.Statement.{statement}
 use Rattle.walking.proofs.turn.Tie as tie
 
-get-event-requires : tie.Need-get-event-requires
-get-event-requires c κs = search needs
-
-get-copy-requires : tie.Need-get-copy-requires
-get-copy-requires c κs = search needs
-
-add-get-row : tie.Need-add-get-row
-add-get-row c = search needs
-
-get-row-requires : tie.Need-get-row-requires
-get-row-requires c κs = search needs
-
 -- The event that is read is event t, and known.
 event : (h : tie.After-get-event) → let a : _ = h .before .before .before .args in
     meant (h .get-event .result) ≡ eventIn (a .w .now) (a .t)
@@ -60,9 +48,6 @@ row : (h : tie.After-get-row)
 row h =
     let a = h .before .before .before .before .before .before .before .before .before .args in
     h .get-row .ensures ∙ ap (rowIn (a .w .now)) (add-one (a .t))
-
-get-event-requires-2 : tie.Need-get-event-requires-2
-get-event-requires-2 c κs = search needs
 
 -- The event that is read for the table is the same.
 again : (h : tie.After-get-event2)
@@ -116,9 +101,6 @@ place-after-requires c κs =
     let read = table .before .before .before .before .before .before .before .before .before in
     (read .before .before .before .pre .steppable .owner, (known read, gap .gap .ensures .0 .fits))
 
-same-length : tie.Need-same-length
-same-length c = search needs
-
 returns : tie.Need-returns
 returns c =
     let gap = c .before .before .before in
@@ -133,9 +115,6 @@ returns c =
     (turned-here (a .site) (a .t) (a .p) (a .w .now) (start .pre) inner (here then) (line h)
     (gap .gap .result) (gap .gap .last .0) moved (gap .gap .ensures .1))
 
-same-length-2 : tie.Need-same-length-2
-same-length-2 c = search needs
-
 returns-2 : tie.Need-returns-2
 returns-2 c =
     let start = c .before .before .before .before .before in
@@ -147,16 +126,16 @@ pub turn-spec : {M : Type 1} → statement M
 turn-spec =
     tie.close
     (tie.spec
-    get-event-requires
+    (λ c κs. search needs)
     concerned-requires
-    get-copy-requires
-    add-get-row
-    get-row-requires
-    get-event-requires-2
+    (λ c κs. search needs)
+    (λ c. search needs)
+    (λ c κs. search needs)
+    (λ c κs. search needs)
     row-before-requires
     gap-requires
     place-after-requires
-    same-length
+    (λ c. search needs)
     returns
-    same-length-2
+    (λ c. search needs)
     returns-2)

@@ -13,30 +13,12 @@ use Rattle.walking.proofs.Entering.{draining-trail}
 use Rattle.walking.proofs.write_back.Statement.{statement}
 use Rattle.walking.proofs.write_back.Tie as tie
 
-first-holder-requires : tie.Need-first-holder-requires
-first-holder-requires c κs = search needs
-
-holds-requires : tie.Need-holds-requires
-holds-requires c κs = search needs
-
-word-requires : tie.Need-word-requires
-word-requires c κs = search needs
-
-put-if-requires : tie.Need-put-if-requires
-put-if-requires c κs = search needs
-
-word-requires-2 : tie.Need-word-requires-2
-word-requires-2 c κs = search needs
-
 put-if-requires-2 : tie.Need-put-if-requires-2
 put-if-requires-2 c κs =
     let h = c .before .before .before .before in
     let stored = h .put-if .ensures in
     let owned = h .before .before .before .holds .result in
     omega (arith, stored-length stored, stored .here, oneIf-few (not owned) (h .before .word .result))
-
-same-length : tie.Need-same-length
-same-length c = search needs
 
 returns : tie.Need-returns
 returns c =
@@ -69,11 +51,11 @@ pub write-back-spec : {M : Type 1} → statement M
 write-back-spec =
     tie.close
     (tie.spec
-    first-holder-requires
-    holds-requires
-    word-requires
-    put-if-requires
-    word-requires-2
+    (λ c κs. search needs)
+    (λ c κs. search needs)
+    (λ c κs. search needs)
+    (λ c κs. search needs)
+    (λ c κs. search needs)
     put-if-requires-2
-    same-length
+    (λ c. search needs)
     returns)

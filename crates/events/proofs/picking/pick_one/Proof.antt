@@ -5,30 +5,12 @@ use borrow.Author.Tests.{lt-ltb, le-ltb}
 use Rattle.events.proofs.picking.pick_one.Statement.{statement}
 use Rattle.events.proofs.picking.pick_one.Tie as tie
 
-copy-event-requires : tie.Need-copy-event-requires
-copy-event-requires c κs = search needs
-
-add-t11 : tie.Need-add-t11
-add-t11 c = search needs
-
-same-length : tie.Need-same-length
-same-length c = search needs
-
 returns : tie.Need-returns
 returns c =
     let done = c .before .before .before .copy-event .ensures in
     let p = c .before .before .before .before .before .before .before .before .args .p in
     let first = lt-ltb (p .crash) (p .own) (c .before .before .before .before .before .if1 .taken) in
     rw first (done .0, rw (done .1) refl)
-
-copy-event-requires-2 : tie.Need-copy-event-requires-2
-copy-event-requires-2 c κs = search needs
-
-add-t17 : tie.Need-add-t17
-add-t17 c = search needs
-
-same-length-2 : tie.Need-same-length-2
-same-length-2 c = search needs
 
 returns-2 : tie.Need-returns-2
 returns-2 c =
@@ -41,11 +23,11 @@ pub pick-one-spec : {M : Type 1} → statement M
 pick-one-spec =
     tie.close
     (tie.spec
-    copy-event-requires
-    add-t11
-    same-length
+    (λ c κs. search needs)
+    (λ c. search needs)
+    (λ c. search needs)
     returns
-    copy-event-requires-2
-    add-t17
-    same-length-2
+    (λ c κs. search needs)
+    (λ c. search needs)
+    (λ c. search needs)
     returns-2)

@@ -5,26 +5,11 @@ use Rattle.judge.proofs.Issuing.{issued, not-issued, tells-allowed}
 use Rattle.judge.proofs.settling.issue_allowed.Statement.{statement}
 use Rattle.judge.proofs.settling.issue_allowed.Tie as tie
 
-write-allowed-requires : tie.Need-write-allowed-requires
-write-allowed-requires c κs = search needs
-
-enum-known-n : tie.Need-enum-known-n
-enum-known-n c = search needs
-
-enum-known-why : tie.Need-enum-known-why
-enum-known-why c = search needs
-
-same-length : tie.Need-same-length
-same-length c = search needs
-
 returns : tie.Need-returns
 returns c =
     let w = c .before .before .before .before .before .write-allowed .ensures in
     let start = c .before .before .before .before .before .before .before .before .before in
     issued _ (w .0) (w .1) (c .before .n .given .1) (tells-allowed (now (start .args .steps)) _)
-
-same-length-2 : tie.Need-same-length-2
-same-length-2 c = search needs
 
 returns-2 : tie.Need-returns-2
 returns-2 c =
@@ -35,10 +20,10 @@ pub issue-allowed-spec : {M : Type 1} → statement M
 issue-allowed-spec =
     tie.close
     (tie.spec
-    write-allowed-requires
-    enum-known-n
-    enum-known-why
-    same-length
+    (λ c κs. search needs)
+    (λ c. search needs)
+    (λ c. search needs)
+    (λ c. search needs)
     returns
-    same-length-2
+    (λ c. search needs)
     returns-2)

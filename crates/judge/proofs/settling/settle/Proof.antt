@@ -19,22 +19,10 @@ visits : (c : tie.After-struct-known)
     (c .before .before .before .visit-all .result) (c .before .before .before .visit-all .last .0)
 visits c = c .before .before .before .visit-all .ensures
 
-visit-all-requires : tie.Need-visit-all-requires
-visit-all-requires c κs = search needs
-
-add-issue-impossible : tie.Need-add-issue-impossible
-add-issue-impossible c = search needs
-
 cast-issue-impossible : tie.Need-cast-issue-impossible
 cast-issue-impossible c =
     let k = c .before .before .before in
     omega (arith, few-events (start k .pre .1) (visits k), c .before .before .if1 .taken)
-
-issue-impossible-requires : tie.Need-issue-impossible-requires
-issue-impossible-requires c κs = search needs
-
-same-length : tie.Need-same-length
-same-length c = search needs
 
 same-length-2 : tie.Need-same-length-2
 same-length-2 c = visits (c .before .before .before .before .before .before) .kept .sized
@@ -70,12 +58,6 @@ part-issue-allowed-end c =
     let sized = c .before .before .before .before .before .order .ensures .sized in
     omega (arith, visits k .visited .few, sized, visits k .kept .sized, start k .pre .1 .linked .room)
 
-issue-allowed-requires : tie.Need-issue-allowed-requires
-issue-allowed-requires c κs = search needs
-
-same-length-3 : tie.Need-same-length-3
-same-length-3 c = search needs
-
 same-length-4 : tie.Need-same-length-4
 same-length-4 c =
     let o = c .before .before .before .before .before .before .before .before .before in
@@ -98,11 +80,11 @@ pub settle-spec : {M : Type 1} → statement M
 settle-spec =
     tie.close
     (tie.spec
-    visit-all-requires
-    add-issue-impossible
+    (λ c κs. search needs)
+    (λ c. search needs)
     cast-issue-impossible
-    issue-impossible-requires
-    same-length
+    (λ c κs. search needs)
+    (λ c. search needs)
     same-length-2
     returns
     order-requires
@@ -110,7 +92,7 @@ settle-spec =
     sub-issue-allowed
     part-issue-allowed-start
     part-issue-allowed-end
-    issue-allowed-requires
-    same-length-3
+    (λ c κs. search needs)
+    (λ c. search needs)
     same-length-4
     returns-2)

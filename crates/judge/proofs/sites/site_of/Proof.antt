@@ -6,15 +6,6 @@ use Rattle.judge.proofs.Described.{described}
 use Rattle.judge.proofs.sites.site_of.Statement.{statement}
 use Rattle.judge.proofs.sites.site_of.Tie as tie
 
-owner-requires : tie.Need-owner-requires
-owner-requires c κs = search needs
-
-is-persistent-requires : tie.Need-is-persistent-requires
-is-persistent-requires c κs = search needs
-
-initial-requires : tie.Need-initial-requires
-initial-requires c κs = search needs
-
 returns : tie.Need-returns
 returns c =
     let start = c .before .before .before in
@@ -23,4 +14,4 @@ returns c =
     (described (start .args .t) (start .pre .0) (start .pre .1) owned volatile (c .initial .ensures), refl)
 
 pub site-of-spec : {M : Type 1} → statement M
-site-of-spec = tie.close (tie.spec owner-requires is-persistent-requires initial-requires returns)
+site-of-spec = tie.close (tie.spec (λ c κs. search needs) (λ c κs. search needs) (λ c κs. search needs) returns)

@@ -24,26 +24,14 @@ explains c = c .before .before .before
 pick-events-requires : tie.Need-pick-events-requires
 pick-events-requires c κs = let s = c .before .before in (pick-can (s .pre), pick-low (s .pre))
 
-same-length : tie.Need-same-length
-same-length c = search needs
-
 returns : tie.Need-returns
 returns c = let k = c .before .before .before in visit-none (start k .pre) (k .pick-events .ensures) (c .if1 .taken)
-
-site-of-requires : tie.Need-site-of-requires
-site-of-requires c κs = search needs
 
 explain-requires : tie.Need-explain-requires
 explain-requires c κs =
     let s = c .before in
     let k = picks s in
     visit-explainable (start k .pre) (k .pick-events .ensures) (here s) (s .site-of .ensures .0)
-
-place-requires : tie.Need-place-requires
-place-requires c κs = search needs
-
-same-length-2 : tie.Need-same-length-2
-same-length-2 c = search needs
 
 returns-2 : tie.Need-returns-2
 returns-2 c =
@@ -53,9 +41,6 @@ returns-2 c =
     let k = picks s in
     visit-ends (start k .pre) (k .pick-events .ensures) (here s) (s .site-of .ensures .0) (f .explain .ensures)
     (h .if2 .taken) _ (c .place .ensures)
-
-same-length-3 : tie.Need-same-length-3
-same-length-3 c = search needs
 
 returns-3 : tie.Need-returns-3
 returns-3 c =
@@ -75,9 +60,6 @@ retime-requires c κs =
     visit-retimable (start k .pre) (k .pick-events .ensures) (here s) (s .site-of .ensures .0) (f .explain .ensures)
     (omega (arith, f .explain .ensures .most, h .if2 .left)) (c .before .if3 .left)
 
-same-length-4 : tie.Need-same-length-4
-same-length-4 c = search needs
-
 returns-4 : tie.Need-returns-4
 returns-4 c =
     let r = c .before .before in
@@ -94,15 +76,15 @@ visit-spec =
     tie.close
     (tie.spec
     pick-events-requires
-    same-length
+    (λ c. search needs)
     returns
-    site-of-requires
+    (λ c κs. search needs)
     explain-requires
-    place-requires
-    same-length-2
+    (λ c κs. search needs)
+    (λ c. search needs)
     returns-2
-    same-length-3
+    (λ c. search needs)
     returns-3
     retime-requires
-    same-length-4
+    (λ c. search needs)
     returns-4)

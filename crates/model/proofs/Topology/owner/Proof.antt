@@ -17,9 +17,6 @@ listed c =
     let h = c .before .before in
     listed-e (h .args .t1) (room h) (h .args .x .0) (sym (c .before .is-location .ensures) ∙ c .if1 .taken)
 
-cast-at : tie.Need-cast-at
-cast-at c = search needs
-
 element-copy-out-h : tie.Need-element-copy-out-h
 element-copy-out-h c = listed (c .before) .1
 
@@ -34,4 +31,4 @@ returns-2 c =
     no-owner (h .t1) (h .x .0) (sym (c .before .is-location .ensures) ∙ c .if1 .left)
 
 pub owner-spec : {M : Type 1} → statement M
-owner-spec = tie.close (tie.spec nothing cast-at element-copy-out-h returns returns-2)
+owner-spec = tie.close (tie.spec nothing (λ c. search needs) element-copy-out-h returns returns-2)

@@ -8,9 +8,6 @@ use Rattle.model.proofs.Tests.{and-r, true→T}
 use Rattle.model.proofs.Topology.within_limits.Statement.{statement}
 use Rattle.model.proofs.Topology.within_limits.Tie as tie
 
-cast-count : tie.Need-cast-count
-cast-count c = search needs
-
 owners-fit-requires : tie.Need-owners-fit-requires
 owners-fit-requires c κs =
     let t = c .before .before .args .self in
@@ -26,4 +23,4 @@ unfolding withinLimits
 returns-2 c = rw (c .if1 .left)
 
 pub within-limits-spec : {M : Type 1} → statement M
-within-limits-spec = tie.close (tie.spec cast-count owners-fit-requires returns returns-2)
+within-limits-spec = tie.close (tie.spec (λ c. search needs) owners-fit-requires returns returns-2)

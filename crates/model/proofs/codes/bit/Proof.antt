@@ -4,9 +4,6 @@ use Rattle.model.proofs.Bits.{bit-byte, no-bit, no-bit-above}
 use Rattle.model.proofs.codes.bit.Statement.{statement}
 use Rattle.model.proofs.codes.bit.Tie as tie
 
-shl-result : tie.Need-shl-result
-shl-result c = search needs
-
 returns : tie.Need-returns
 returns c = bit-byte (c .before .before .args .i .0) (c .before .if1 .left)
 
@@ -17,4 +14,4 @@ returns-3 : tie.Need-returns-3
 returns-3 c = no-bit-above (c .before .before .args .i .0) (c .if2 .left)
 
 pub bit-spec : {M : Type 1} → statement M
-bit-spec = tie.close (tie.spec shl-result returns returns-2 returns-3)
+bit-spec = tie.close (tie.spec (λ c. search needs) returns returns-2 returns-3)

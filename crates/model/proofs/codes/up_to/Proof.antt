@@ -5,9 +5,6 @@ use Rattle.model.proofs.Bits.{shift-byte, low-byte, all-byte}
 use Rattle.model.proofs.codes.up_to.Statement.{statement}
 use Rattle.model.proofs.codes.up_to.Tie as tie
 
-shl-result : tie.Need-shl-result
-shl-result c = search needs
-
 sub-result : tie.Need-sub-result
 sub-result c = rw (shift-byte (c .before .args .n) (c .if1 .taken)) (pow-pos (c .before .args .n))
 
@@ -18,4 +15,4 @@ returns-2 : tie.Need-returns-2
 returns-2 c = all-byte (c .before .args .c) (c .before .args .n) (c .before .fits .c .fits) (c .if1 .left)
 
 pub up-to-spec : {M : Type 1} → statement M
-up-to-spec = tie.close (tie.spec shl-result sub-result returns returns-2)
+up-to-spec = tie.close (tie.spec (λ c. search needs) sub-result returns returns-2)

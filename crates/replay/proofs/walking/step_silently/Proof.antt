@@ -6,15 +6,9 @@ use borrow.Author.Needs.{needs}
 use Rattle.replay.proofs.walking.step_silently.Statement.{statement}
 use Rattle.replay.proofs.walking.step_silently.Tie as tie
 
-write-back-requires : tie.Need-write-back-requires
-write-back-requires c κs = search needs
-
 returns : tie.Need-returns
 unfolding silentOf
 returns c = rw (c .before .if1 .taken) (c .write-back .ensures .0)
-
-propagate-requires : tie.Need-propagate-requires
-propagate-requires c κs = search needs
 
 returns-2 : tie.Need-returns-2
 returns-2 c =
@@ -22,4 +16,4 @@ returns-2 c =
     rw (propagates p (c .before .if1 .left)) (c .propagate .ensures .0)
 
 pub step-silently-spec : {M : Type 1} → statement M
-step-silently-spec = tie.close (tie.spec write-back-requires returns propagate-requires returns-2)
+step-silently-spec = tie.close (tie.spec (λ c κs. search needs) returns (λ c κs. search needs) returns-2)

@@ -13,21 +13,6 @@ use Rattle.replay.proofs.walking.take_event.Tie as tie
 returns : tie.Need-returns
 returns c = λ e next found low. absurd (omega arith)
 
-event-at-requires : tie.Need-event-at-requires
-event-at-requires c κs = search needs
-
-enum-known-e : tie.Need-enum-known-e
-enum-known-e c = search needs
-
-apply-requires : tie.Need-apply-requires
-apply-requires c κs = search needs
-
-add-t15 : tie.Need-add-t15
-add-t15 c = search needs
-
-enum-told : tie.Need-enum-told
-enum-told c = search needs
-
 returns-2 : tie.Need-returns-2
 unfolding outcomeOf
 returns-2 c = λ e next found low.
@@ -54,10 +39,10 @@ take-event-spec =
     tie.close
     (tie.spec
     returns
-    event-at-requires
-    enum-known-e
-    apply-requires
-    add-t15
-    enum-told
+    (λ c κs. search needs)
+    (λ c. search needs)
+    (λ c κs. search needs)
+    (λ c. search needs)
+    (λ c. search needs)
     returns-2
     returns-3)

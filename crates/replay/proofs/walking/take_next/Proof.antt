@@ -10,15 +10,6 @@ use borrow.Author.Needs.{needs}
 use Rattle.replay.proofs.walking.take_next.Statement.{statement}
 use Rattle.replay.proofs.walking.take_next.Tie as tie
 
-step-at-requires : tie.Need-step-at-requires
-step-at-requires c κs = search needs
-
-enum-known-p : tie.Need-enum-known-p
-enum-known-p c = search needs
-
-take-step-requires : tie.Need-take-step-requires
-take-step-requires c κs = search needs
-
 -- A step was found.
 found : (c : tie.After-p)
     → let a = c .before .before .before .before .before .args in
@@ -29,15 +20,6 @@ returns : tie.Need-returns
 returns c = λ a k g.
     step-goes g _ _ _ (found (c .before .before .before .before .before))
     (omega (arith, c .before .if1 .taken)) (c .take-step .ensures)
-
-take-event-requires : tie.Need-take-event-requires
-take-event-requires c κs = search needs
-
-enum-told : tie.Need-enum-told
-enum-told c = search needs
-
-take-event-requires-2 : tie.Need-take-event-requires-2
-take-event-requires-2 c κs = search needs
 
 returns-2 : tie.Need-returns-2
 returns-2 c = λ a k g.
@@ -54,12 +36,12 @@ pub take-next-spec : {M : Type 1} → statement M
 take-next-spec =
     tie.close
     (tie.spec
-    step-at-requires
-    enum-known-p
-    take-step-requires
+    (λ c κs. search needs)
+    (λ c. search needs)
+    (λ c κs. search needs)
     returns
-    take-event-requires
-    enum-told
-    take-event-requires-2
+    (λ c κs. search needs)
+    (λ c. search needs)
+    (λ c κs. search needs)
     returns-2
     returns-3)

@@ -6,9 +6,6 @@ use borrow.Author.Needs.{needs}
 use Rattle.replay.proofs.walking.take_step.Statement.{statement}
 use Rattle.replay.proofs.walking.take_step.Tie as tie
 
-step-silently-requires : tie.Need-step-silently-requires
-step-silently-requires c κs = search needs
-
 returns : tie.Need-returns
 unfolding outcomeOf
 returns c =
@@ -22,4 +19,4 @@ returns c =
     }
 
 pub take-step-spec : {M : Type 1} → statement M
-take-step-spec = tie.close (tie.spec step-silently-requires returns)
+take-step-spec = tie.close (tie.spec (λ c κs. search needs) returns)

@@ -8,15 +8,9 @@ use Rattle.verdict_file.specs.Schedules.{starts, begins}
 use Rattle.schedules.proofs.checking.begins_with.Statement.{statement}
 use Rattle.schedules.proofs.checking.begins_with.Tie as tie
 
-add-if1 : tie.Need-add-if1
-add-if1 c = search needs
-
 returns : tie.Need-returns
 unfolding begins
 returns c = let a = c .before .args in rw (lt-leb (3 + a .len) (length (now (a .s))) (c .if1 .taken))
-
-shared-slice-read-if2 : tie.Need-shared-slice-read-if2
-shared-slice-read-if2 c = search needs
 
 returns-2 : tie.Need-returns-2
 unfolding begins starts
@@ -26,9 +20,6 @@ returns-2 c =
       le-leb (3 + a .len) (length (now (a .s))) (c .before .before .if1 .left),
       ne-eqb (getD (now (a .s)) 0 0) (a .tag) (c .if2 .taken),
     )
-
-shared-slice-read-if3 : tie.Need-shared-slice-read-if3
-shared-slice-read-if3 c = search needs
 
 returns-3 : tie.Need-returns-3
 unfolding begins starts
@@ -40,9 +31,6 @@ returns-3 c =
       eq-eqb (getD (now (a .s)) 0 0) (a .tag) (second .if2 .left),
       ne-eqb (getD (now (a .s)) 1 0) (a .len) (c .if3 .taken),
     )
-
-shared-slice-read-result : tie.Need-shared-slice-read-result
-shared-slice-read-result c = search needs
 
 returns-4 : tie.Need-returns-4
 unfolding begins starts
@@ -60,11 +48,11 @@ pub begins-with-spec : {M : Type 1} → statement M
 begins-with-spec =
     tie.close
     (tie.spec
-    add-if1
+    (λ c. search needs)
     returns
-    shared-slice-read-if2
+    (λ c. search needs)
     returns-2
-    shared-slice-read-if3
+    (λ c. search needs)
     returns-3
-    shared-slice-read-result
+    (λ c. search needs)
     returns-4)

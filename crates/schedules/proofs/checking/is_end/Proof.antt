@@ -6,9 +6,6 @@ use Rattle.verdict_file.specs.Schedules.{isEnd}
 use Rattle.schedules.proofs.checking.is_end.Statement.{statement}
 use Rattle.schedules.proofs.checking.is_end.Tie as tie
 
-begins-with-requires : tie.Need-begins-with-requires
-begins-with-requires c κs = search needs
-
 returns : tie.Need-returns
 unfolding isEnd
 returns c = rw (sym (c .before .begins-with .ensures) ∙ not-true _ (c .if1 .taken))
@@ -18,4 +15,4 @@ unfolding isEnd
 returns-2 c = rw (sym (c .before .begins-with .ensures) ∙ not-false _ (c .if1 .left))
 
 pub is-end-spec : {M : Type 1} → statement M
-is-end-spec = tie.close (tie.spec begins-with-requires returns returns-2)
+is-end-spec = tie.close (tie.spec (λ c κs. search needs) returns returns-2)

@@ -18,9 +18,6 @@ returns-2 c =
       lt-leb (a .p .before) (a .events) (c .if2 .taken),
     )
 
-step-fits-requires : tie.Need-step-fits-requires
-step-fits-requires c κs = search needs
-
 returns-3 : tie.Need-returns-3
 unfolding mayFollow
 returns-3 c =
@@ -33,4 +30,4 @@ returns-3 c =
     (c .step-fits .ensures)
 
 pub may-follow-spec : {M : Type 1} → statement M
-may-follow-spec = tie.close (tie.spec returns returns-2 step-fits-requires returns-3)
+may-follow-spec = tie.close (tie.spec returns returns-2 (λ c κs. search needs) returns-3)

@@ -11,9 +11,6 @@ use Rattle.verdict_file.proofs.Fields.{long}
 use Rattle.schedules.proofs.checking.says_allowed.Statement.{statement}
 use Rattle.schedules.proofs.checking.says_allowed.Tie as tie
 
-begins-with-requires : tie.Need-begins-with-requires
-begins-with-requires c κs = search needs
-
 returns : tie.Need-returns
 unfolding saysAllowed
 returns c = rw (sym (c .before .begins-with .ensures) ∙ not-true _ (c .if1 .taken))
@@ -46,7 +43,7 @@ pub says-allowed-spec : {M : Type 1} → statement M
 says-allowed-spec =
     tie.close
     (tie.spec
-    begins-with-requires
+    (λ c κs. search needs)
     returns
     shared-slice-read-if2
     returns-2

@@ -15,18 +15,12 @@ use Rattle.schedules.proofs.checking.step_fits.Tie as tie
 homes : (c : tie.Start) → length (c .args .t1 .homes) ≡ 32
 homes c = let own = c .good .0 .1 .1 .1 .1 .1 .0 in simp length-map at (own .1 .0 .1)
 
-cast-x : tie.Need-cast-x
-cast-x c = search needs
-
 returns : tie.Need-returns
 unfolding stepFits
 returns c =
     let start = c .before .before in
     let x : ℕ = start .args .p .location .0 in
     rw (beyond (start .args .t1) x (omega (arith, homes start)))
-
-cast-if2 : tie.Need-cast-if2
-cast-if2 c = search needs
 
 returns-2 : tie.Need-returns-2
 unfolding stepFits
@@ -45,9 +39,6 @@ returns-3 c =
       lt-leb (a .p .machine .0) (a .t1 .machines) (c .if3 .taken),
     )
 
-element-copy-out-home : tie.Need-element-copy-out-home
-element-copy-out-home c = search needs
-
 returns-4 : tie.Need-returns-4
 unfolding stepFits topologyOf
 returns-4 c =
@@ -64,4 +55,4 @@ returns-4 c =
 pub step-fits-spec : {M : Type 1} → statement M
 step-fits-spec =
     tie.close
-    (tie.spec cast-x returns cast-if2 returns-2 returns-3 element-copy-out-home returns-4)
+    (tie.spec (λ c. search needs) returns (λ c. search needs) returns-2 returns-3 (λ c. search needs) returns-4)

@@ -16,9 +16,6 @@ resume-requires c κs =
     let back = c .before .before .before .before in
     resumable (back .before .before .before .pre) (back .retrace .ensures) (c .before .if1 .taken)
 
-same-length : tie.Need-same-length
-same-length c = search needs
-
 returns : tie.Need-returns
 returns c =
     let on = c .before .before in
@@ -26,9 +23,6 @@ returns c =
     let back = then .before .before .before in
     went-back (back .before .before .before .pre) (back .retrace .ensures) (then .if1 .taken)
     (on .resume .ensures)
-
-same-length-2 : tie.Need-same-length-2
-same-length-2 c = search needs
 
 returns-2 : tie.Need-returns-2
 returns-2 c =
@@ -38,4 +32,4 @@ returns-2 c =
 pub go-back-spec : {M : Type 1} → statement M
 go-back-spec =
     tie.close
-    (tie.spec add-m retrace-requires resume-requires same-length returns same-length-2 returns-2)
+    (tie.spec add-m retrace-requires resume-requires (λ c. search needs) returns (λ c. search needs) returns-2)

@@ -15,29 +15,17 @@ use Rattle.search.proofs.Continuing.{went-elsewhere, went-ahead, went-o
 use Rattle.search.proofs.explaining.go_on.Statement.{statement}
 use Rattle.search.proofs.explaining.go_on.Tie as tie
 
-get-event-requires : tie.Need-get-event-requires
-get-event-requires c κs = search needs
-
 -- The event that is read is known.
 known : (h : tie.After-get-event) → Known (h .get-event .result)
 known h = rw (h .get-event .ensures) (h .before .before .before .pre .known)
-
-get-copy-requires : tie.Need-get-copy-requires
-get-copy-requires c κs = search needs
 
 put-place-requires : tie.Need-put-place-requires
 put-place-requires c κs =
     let start = c .before .before .before .before .before .before in
     (omega arith, omega arith, omega (arith, continuable-end (start .pre)))
 
-add-put-copy : tie.Need-add-put-copy
-add-put-copy c = search needs
-
 copy-after-requires : tie.Need-copy-after-requires
 copy-after-requires c κs = known (c .before .before .before .before .before .before .before)
-
-put-copy-requires : tie.Need-put-copy-requires
-put-copy-requires c κs = search needs
 
 -- ---- once the place and the copies are put
 
@@ -77,9 +65,6 @@ concerned-requires c κs = known (got-event (c .before .before))
 abbrev put : tie.After-concerned → tie.After-put-copy
 put h = h .before .before .before
 
-same-length : tie.Need-same-length
-same-length c = search needs
-
 returns : tie.Need-returns
 returns c =
     let h = put (c .before) in
@@ -96,9 +81,6 @@ place-after-requires c κs =
     let h = put (c .before .before .before) in
     (start h .pre .ready .owner, (known (got-event h), continuable-fits (start h .pre)))
 
-same-length-2 : tie.Need-same-length-2
-same-length-2 c = search needs
-
 returns-2 : tie.Need-returns-2
 returns-2 c =
     let tested = c .before .before in
@@ -114,9 +96,6 @@ returns-2 c =
 go-back-requires : tie.Need-go-back-requires
 go-back-requires c κs = begins (put (c .before .before .before .before)) .stuck
 
-same-length-3 : tie.Need-same-length-3
-same-length-3 c = search needs
-
 returns-3 : tie.Need-returns-3
 returns-3 c =
     let back = c .before .before in
@@ -127,19 +106,19 @@ pub go-on-spec : {M : Type 1} → statement M
 go-on-spec =
     tie.close
     (tie.spec
-    get-event-requires
-    get-copy-requires
+    (λ c κs. search needs)
+    (λ c κs. search needs)
     put-place-requires
-    add-put-copy
+    (λ c. search needs)
     copy-after-requires
-    put-copy-requires
+    (λ c κs. search needs)
     concerned-requires
-    same-length
+    (λ c. search needs)
     returns
     possible-requires
     place-after-requires
-    same-length-2
+    (λ c. search needs)
     returns-2
     go-back-requires
-    same-length-3
+    (λ c. search needs)
     returns-3)

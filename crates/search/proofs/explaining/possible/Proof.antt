@@ -11,9 +11,6 @@ use Rattle.search.proofs.Possible.{possible-asks}
 use Rattle.search.proofs.explaining.possible.Statement.{statement}
 use Rattle.search.proofs.explaining.possible.Tie as tie
 
-holds-requires : tie.Need-holds-requires
-holds-requires c κs = search needs
-
 returns : tie.Need-returns
 unfolding eventOf enabledAt
 returns c = possible-asks _ _ _ (λ sys x. rw (c .match .keys1))
@@ -64,7 +61,7 @@ pub possible-spec : {M : Type 1} → statement M
 possible-spec =
     tie.close
     (tie.spec
-    holds-requires
+    (λ c κs. search needs)
     returns
     returns-2
     returns-3

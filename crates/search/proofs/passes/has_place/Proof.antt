@@ -9,9 +9,6 @@ use Rattle.walking.specs.declared.Place.{Place}
 use Rattle.search.proofs.passes.has_place.Statement.{statement}
 use Rattle.search.proofs.passes.has_place.Tie as tie
 
-get-place-requires : tie.Need-get-place-requires
-get-place-requires c κs = search needs
-
 fine-requires : tie.Need-fine-requires
 fine-requires c κs =
     subst (λ (p : Place). p .code < 64) (sym (c .get-place .ensures)) (c .before .before .pre .2)
@@ -23,4 +20,4 @@ returns c =
     (c .before .get-place .ensures) (c .fine .ensures)
 
 pub has-place-spec : {M : Type 1} → statement M
-has-place-spec = tie.close (tie.spec get-place-requires fine-requires returns)
+has-place-spec = tie.close (tie.spec (λ c κs. search needs) fine-requires returns)

@@ -9,12 +9,6 @@ use Rattle.walking.proofs.Events.{meant-read}
 use Rattle.search.proofs.passes.row_before.Statement.{statement}
 use Rattle.search.proofs.passes.row_before.Tie as tie
 
-get-event-requires : tie.Need-get-event-requires
-get-event-requires c κs = search needs
-
-get-copy-requires : tie.Need-get-copy-requires
-get-copy-requires c κs = search needs
-
 row-step-requires : tie.Need-row-step-requires
 row-step-requires c κs =
     let start = c .before .before .before in
@@ -39,4 +33,4 @@ returns c =
 
 pub row-before-spec : {M : Type 1} → statement M
 row-before-spec =
-    tie.close (tie.spec get-event-requires get-copy-requires row-step-requires returns)
+    tie.close (tie.spec (λ c κs. search needs) (λ c κs. search needs) row-step-requires returns)

@@ -10,15 +10,6 @@ use Rattle.states.proofs.State.entry.Tie as tie
 room : (c : tie.Start) → length (c .args .t1 .entries) ≡ 32
 room c = search mapped
 
-cast-at : tie.Need-cast-at
-cast-at c = search needs
-
-mul-e : tie.Need-mul-e
-mul-e c = search needs
-
-element-copy-out-e : tie.Need-element-copy-out-e
-element-copy-out-e c = search needs
-
 returns : tie.Need-returns
 unfolding entryAt
 returns c = refl
@@ -30,4 +21,4 @@ returns-2 c =
     sym (List·getD-eq-default (h .args .t1 .entries) _ (rw (room h) (c .if1 .left)))
 
 pub entry-spec : {M : Type 1} → statement M
-entry-spec = tie.close (tie.spec cast-at mul-e element-copy-out-e returns returns-2)
+entry-spec = tie.close (tie.spec (λ c. search needs) (λ c. search needs) (λ c. search needs) returns returns-2)

@@ -10,15 +10,6 @@ use Rattle.states.proofs.State.settled.Tie as tie
 room : (c : tie.Start) → length (c .args .t1 .entries) ≡ 32
 room c = search mapped
 
-cast-at : tie.Need-cast-at
-cast-at c = search needs
-
-mul-after : tie.Need-mul-after
-mul-after c = search needs
-
-element-set-from-after : tie.Need-element-set-from-after
-element-set-from-after c = search needs
-
 returns : tie.Need-returns
 returns c = rw (c .before .if1 .taken)
 
@@ -33,4 +24,4 @@ returns-3 : tie.Need-returns-3
 returns-3 c = rw (c .if1 .left)
 
 pub settled-spec : {M : Type 1} → statement M
-settled-spec = tie.close (tie.spec cast-at mul-after element-set-from-after returns returns-2 returns-3)
+settled-spec = tie.close (tie.spec (λ c. search needs) (λ c. search needs) (λ c. search needs) returns returns-2 returns-3)

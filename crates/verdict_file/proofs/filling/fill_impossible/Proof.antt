@@ -18,9 +18,6 @@ put-header-requires c κs = omega arith
 put-end-requires : tie.Need-put-end-requires
 put-end-requires c κs = omega arith
 
-same-length : tie.Need-same-length
-same-length c = search needs
-
 returns : tie.Need-returns
 unfolding fileOf header end field pair
 returns c =
@@ -36,4 +33,4 @@ returns c =
 
 pub fill-impossible-spec : {M : Type 1} → statement M
 fill-impossible-spec =
-    tie.close (tie.spec put-header-requires put-end-requires same-length returns)
+    tie.close (tie.spec put-header-requires put-end-requires (λ c. search needs) returns)
