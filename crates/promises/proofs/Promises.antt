@@ -95,8 +95,8 @@ module _ (buf : List ℕ) (used tag : ℕ) (payload : List ℕ) (a : Recorded) (
         → recording.answerOf a ≡ recording.rejected 12
     record-after-end = Recordings.record-after-end buf used tag payload a buf' call inside
 
-    -- Then the new field is read after them. It gives its refusal; one that is not refused gives the new count, or 1 if it
-    -- does not fit.
+    -- Then the new field is read after them. It gives its refusal; one that is not refused gives the new count, or 1 if
+    -- it does not fit.
     module _ (r : Records) (so-far : readFields 0 nothing (take used buf) ≡ Outcome.unfinished r) where
       pub record-field-refused : (number : ℕ) → admit r tag (length payload) payload ≡ Given.refused number
           → recording.answerOf a ≡ recording.rejected number

@@ -10,7 +10,6 @@ use lib.Dec.{T, eqb, eqb→eq, leb, lit≤}
 use borrow.Author.Tests.{leb-true}
 use Rattle.model.specs.Cxl0.{Machine, Location, Value}
 use Rattle.model.specs.Cxl0.{Event, LStore, RStore, MStore, Load, LFlush, RFlush, Crash}
-use Rattle.model.specs.OneLocation.{eventAt}
 use Rattle.model.specs.Operations.{isOperation, eventOf}
 use Rattle.model.specs.declared.Event as event
 use Rattle.model.proofs.Tests.{ne-test, T→true, and-l, and-r}

@@ -1,6 +1,6 @@
 -- One event more: what the walk leaves when it goes on over an event with no silent step, and when it goes
 -- back for one.
-use Prim.Native.Nat.{ℕ, suc, zero-le, _+_, _*_, _-_, _≤_, _<_}
+use Prim.Native.Nat.{ℕ, suc, zero-le, _+_, _*_, _≤_, _<_}
 use native.Mathlib.Nat.{eq-or-lt-of-le, le-refl, le-trans}
 use native.Mathlib.Numerals.{add-one}
 use native.Mathlib.Omega.{arith}

@@ -9,4 +9,10 @@ pack-judged-requires c κs = judged-fits _ _ _ _ _ (c .before .before .before .b
 
 pub cxl0-judge-spec : {M : Type 1} → statement M
 cxl0-judge-spec =
-    tie.close (tie.spec (λ c κs. search needs) pack-judged-requires (λ c. search needs) (λ c. search needs) (λ c. search needs))
+    tie.close
+    (tie.spec
+    (λ c κs. search needs)
+    pack-judged-requires
+    (λ c. search needs)
+    (λ c. search needs)
+    (λ c. search needs))

@@ -12,4 +12,11 @@ returns c =
     (shifted-up (start .args .i .0) (start .pre) (start .args .m) (lack .result) (lack .ensures))
 
 pub giving-up-spec : {M : Type 1} → statement M
-giving-up-spec = tie.close (tie.spec (λ c κs. search needs) (λ c κs. search needs) (λ c. search needs) (λ c. search needs) returns)
+giving-up-spec =
+    tie.close
+    (tie.spec
+    (λ c κs. search needs)
+    (λ c κs. search needs)
+    (λ c. search needs)
+    (λ c. search needs)
+    returns)

@@ -9,4 +9,10 @@ slice-aggregate-write-all : tie.Need-slice-aggregate-write-all
 slice-aggregate-write-all c = simp length-take (omega arith)
 
 pub show-spec : {M : Type 1} → statement M
-show-spec = tie.close (tie.spec slice-aggregate-write-all (λ c κs. search needs) (λ c. search needs) (λ c. search needs))
+show-spec =
+    tie.close
+    (tie.spec
+    slice-aggregate-write-all
+    (λ c κs. search needs)
+    (λ c. search needs)
+    (λ c. search needs))

@@ -11,4 +11,12 @@ returns-2 : tie.Need-returns-2
 returns-2 c = let a = c .before .args in rw (c .if1 .left) (stored-none (a .w .now) (a .at))
 
 pub put-if-spec : {M : Type 1} → statement M
-put-if-spec = tie.close (tie.spec (λ c. search needs) (λ c. search needs) (λ c. search needs) (λ c. search needs) returns returns-2)
+put-if-spec =
+    tie.close
+    (tie.spec
+    (λ c. search needs)
+    (λ c. search needs)
+    (λ c. search needs)
+    (λ c. search needs)
+    returns
+    returns-2)

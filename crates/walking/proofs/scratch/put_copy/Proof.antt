@@ -9,4 +9,13 @@ returns : tie.Need-returns
 returns c = copy-put (c .args .w .now) (omega arith) (c .args .t) (c .args .u) (omega arith) (omega arith)
 
 pub put-copy-spec : {M : Type 1} → statement M
-put-copy-spec = tie.close (tie.spec (λ c. search needs) (λ c. search needs) (λ c. search needs) (λ c. search needs) (λ c. search needs) (λ c. search needs) returns)
+put-copy-spec =
+    tie.close
+    (tie.spec
+    (λ c. search needs)
+    (λ c. search needs)
+    (λ c. search needs)
+    (λ c. search needs)
+    (λ c. search needs)
+    (λ c. search needs)
+    returns)
