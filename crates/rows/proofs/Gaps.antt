@@ -6,7 +6,7 @@ use mathlib.Core.Logic.{_≢_, _⊎_, inl, inr, ⊎-elim, _↔_}
 use mathlib.Core.Bool.{not}
 use mathlib.Core.List.{List, _∷_}
 use lib.Dec.{T}
-use Rattle.model.specs.Cxl0.{Machine, Location, Value, Topology, Event, event}
+use Rattle.model.specs.Cxl0.{Machine, Location, Value, Topology, Event}
 use Rattle.model.specs.OneLocation.{eventAt, concerns, possibleAt, nextAt, still}
 use Rattle.model.specs.OneLocation.{Reaches}
 use Rattle.model.proofs.SilentSteps.{moves-bound, moves-none}
