@@ -1,6 +1,6 @@
 #!/usr/bin/env python3
-"""Prints the lines of crates/judge_cases/stdin: logs in the byte form of document 01, each with the areas that it is
-judged in. A case is a line `NAME LOG OUTPUT OFFSET SCRATCH`, and a comment above it says what is to come out."""
+"""Prints the judge's cases of crates/cases/stdin: logs in the byte form of document 01, each with the areas that it is
+judged in. A case is a line `j NAME LOG OUTPUT OFFSET SCRATCH`, and a comment above it says what is to come out."""
 
 LSTORE, RSTORE, MSTORE, LOAD, LFLUSH, RFLUSH, CRASH = range(1, 8)
 LONGEST = 1544  # bytes of a verdict file
@@ -35,7 +35,7 @@ def log(owners, events, machines=3, persistent=None):
 
 def case(name, expected, data, output=LONGEST, offset=0, scratch=WORDS):
     print(f"# {expected}")
-    print(f"{name} {data.hex()} {output} {offset} {scratch}")
+    print(f"j {name} {data.hex()} {output} {offset} {scratch}")
 
 
 def marked_logs():

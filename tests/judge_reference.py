@@ -1,5 +1,5 @@
 #!/usr/bin/env python3
-"""judge_reference.py STDIN STDOUT: is STDOUT what crates/judge_cases must print on STDIN?
+"""judge_reference.py STDIN STDOUT: is STDOUT what crates/cases must print on STDIN, the judge's cases?
 
 Each log is judged anew, from document 01 alone: a location at a time, forward, with every state that its silent steps
 can reach. A schedule that was printed is replayed on the whole system. The exit status is 0 only where nothing is
@@ -203,7 +203,8 @@ def lines_of(path):
 
 
 def main():
-    cases, printed = lines_of(sys.argv[1]), lines_of(sys.argv[2])
+    cases = [line.removeprefix("j ") for line in lines_of(sys.argv[1])]
+    printed = lines_of(sys.argv[2])
     names = {line.split(" ")[0] for line in cases}
     starts = [n for n, line in enumerate(printed) if line.split(" ")[0] in names] + [len(printed)]
     if len(starts) != len(cases) + 1 or starts[0] != 0:

@@ -1,6 +1,6 @@
 #!/usr/bin/env python3
-"""`cases` prints crates/replay_cases/stdin. `answers` reads those lines and prints what the program must print, by a
-schedule reader and a replay of the whole system of its own, written from document 01 alone."""
+"""`cases` prints the cases of replay in crates/cases/stdin. `answers` reads those lines and prints what the program must
+print, by a schedule reader and a replay of the whole system of its own, written from document 01 alone."""
 import sys
 
 sys.dont_write_bytecode = True
@@ -99,7 +99,7 @@ def replay(log, file):
 def answers():
     for line in sys.stdin.read().split("\n")[:-1]:
         words = line.split(" ")
-        print(replay(bytes.fromhex(words[1]), bytes.fromhex(words[2])) if words[0] == "r" else line)
+        print(replay(bytes.fromhex(words[1]), bytes.fromhex(words[2])) if words[0] == "s" else line)
 
 
 # ---- cases
@@ -123,12 +123,9 @@ def file(steps):
     return ALLOWED + b"".join(field(0x11, *step) for step in steps) + END
 
 
-LINES = []
-
-
 def show(words, the_log, the_file):
-    LINES.append(f"# {words}\n")
-    LINES.append(f"r {the_log.hex()} {the_file.hex()}\n")
+    print(f"# {words}")
+    print(f"s {the_log.hex()} {the_file.hex()}")
 
 
 def changed(words, the_log, steps):
@@ -307,9 +304,6 @@ def cases():
     refused_schedules()
     refused_logs()
     drawn_cases()
-    text = "".join(LINES)
-    assert len(text) < 65536, "more than the program reads"
-    print(text, end="")
 
 
 {"cases": cases, "answers": answers}[sys.argv[1]]()

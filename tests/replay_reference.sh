@@ -1,6 +1,7 @@
 #!/usr/bin/env bash
-# The stored cases of replay_cases are those of replay_cases.py, and their stored output is what a replay written from
+# The stored cases of replay are those of replay_cases.py, and what is stored for them is what a replay written from
 # document 01 alone gives.
 set -o pipefail
-python3 tests/replay_cases.py cases | diff - crates/replay_cases/stdin &&
-    python3 tests/replay_cases.py answers <crates/replay_cases/stdin | diff - crates/replay_cases/stdout
+python3 tests/replay_cases.py cases | diff - <(tests/section replay crates/cases/stdin) &&
+    tests/section replay crates/cases/stdin | python3 tests/replay_cases.py answers |
+    diff - <(tests/section replay crates/cases/stdout)
