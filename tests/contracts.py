@@ -1,8 +1,8 @@
 #!/usr/bin/env python3
 """Every public function says what it returns and relies on no caller.
 
-Lists the public functions that have no `ensures`, and those with a `requires` outside the crates whose first comment has the
-sentence below. Fails if there is one.
+Lists the public functions of the libraries that have no `ensures`, and those with a `requires` outside the crates whose first
+comment has the sentence below. Fails if there is one.
 """
 import pathlib
 import sys
@@ -13,20 +13,17 @@ import antt  # noqa: E402
 INTERNAL = "Internal: only crates of this project call it, and they meet what it requires."
 
 
-def first_comment(crate):
-    for name in ("lib.rt", "main.rt"):
-        root = crate / "src" / name
-        if root.exists():
-            lines = root.read_text(encoding="utf-8").split("\n")
-            end = next((n for n, line in enumerate(lines) if not line.startswith("//")), len(lines))
-            return " ".join(line.removeprefix("//").strip() for line in lines[:end])
-    return ""
+def first_comment(root):
+    lines = root.read_text(encoding="utf-8").split("\n")
+    end = next((n for n, line in enumerate(lines) if not line.startswith("//")), len(lines))
+    return " ".join(line.removeprefix("//").strip() for line in lines[:end])
 
 
 def main():
     faults, functions, internal = [], 0, []
-    for crate in sorted((ROOT / "crates").iterdir()):
-        inside = INTERNAL in first_comment(crate)
+    for root in sorted((ROOT / "crates").glob("*/src/lib.rt")):
+        crate = root.parent.parent
+        inside = INTERNAL in first_comment(root)
         if inside:
             internal.append(crate.name)
         for path in sorted(crate.glob("src/**/*.rt")):

@@ -1,7 +1,7 @@
 """The parts of a Rattle or antt file that a reader goes by: definitions, statements and contracts, each by its name."""
 import re
 
-FUNCTION = re.compile(r'^ *pub (?:extern "C" )?fn (\w+)(.*?)^ *\{', flags=re.M | re.S)
+FUNCTION = re.compile(r'^ *pub (?:extern "C" )?fn (\w+)(.*?)\{\}? *$', flags=re.M | re.S)
 
 
 def without_comments(text, mark):

@@ -1,5 +1,4 @@
--- Events by the number of their operation: their machine, whether they concern a location, and the value of
--- its copies after them.
+-- Events by the number of their operation: which numbers there are, and what holds of the event at its number.
 use Prim.Native.Nat.{ℕ, suc, _≤_}
 use native.Mathlib.Nat.{eq-or-lt-of-le, not-le-of-lt}
 use native.Mathlib.Omega.{arith}

@@ -4,7 +4,7 @@
 // Internal: only crates of this project call it, and they meet what it requires. A machine's number is 1
 // to 6, a code is below 64, `rest` is closed, and an event is known: its operation is 1 LStore, 2 RStore, 3 MStore,
 // 4 Load, 5 LFlush, 6 RFlush or 7 crash. The reader has refused every other number, so that no event comes to the arms
-// of these.
+// of these, and any value will do there: it is one that takes no test of its own.
 use masks::all;
 use masks::all_but_empty;
 use masks::alone;
@@ -227,8 +227,8 @@ pub fn concerned(site: Site, e: Event) -> bool
         5 => own,
         6 => own,
         7 => true,
-        0 => false,
-        8..=255 => false,
+        0 => true,
+        8..=255 => true,
     }
 }
 

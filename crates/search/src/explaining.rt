@@ -63,8 +63,8 @@ fn possible(e: Event, u: u32, p: Place) -> bool
         5 => !holds(p.code, e.machine),
         6 => p.code == 0,
         7 => true,
-        0 => false,
-        8..=255 => false,
+        0 => true,
+        8..=255 => true,
     }
 }
 
