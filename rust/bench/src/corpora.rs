@@ -14,16 +14,13 @@ pub struct Corpus {
     pub events: usize,
     /// Crashes in a hundred events.
     pub crashes: usize,
-    /// Microseconds of the straightforward search that issue 7 reports.
-    pub reference: usize,
 }
 
-/// The four of issue 7.
 pub const CORPORA: [Corpus; 4] = [
-    Corpus { name: "small", machines: 3, locations: 2, events: 16, crashes: 10, reference: 4 },
-    Corpus { name: "large", machines: 6, locations: 32, events: 128, crashes: 10, reference: 67 },
-    Corpus { name: "deep", machines: 6, locations: 1, events: 128, crashes: 10, reference: 60 },
-    Corpus { name: "crashy", machines: 6, locations: 32, events: 128, crashes: 70, reference: 290 },
+    Corpus { name: "small", machines: 3, locations: 2, events: 16, crashes: 10 },
+    Corpus { name: "large", machines: 6, locations: 32, events: 128, crashes: 10 },
+    Corpus { name: "deep", machines: 6, locations: 1, events: 128, crashes: 10 },
+    Corpus { name: "crashy", machines: 6, locations: 32, events: 128, crashes: 70 },
 ];
 
 impl Corpus {

@@ -47,13 +47,13 @@ fn tables() -> Result<(), String> {
         "Microseconds per log, mean over a corpus of the median of {} rounds; p99 over its logs.\n",
         timing::ROUNDS
     );
-    println!("| corpus | proved | p99 | second | p99 | scan | second / proved | proved / scan | issue 7's search |");
-    println!("|---|---|---|---|---|---|---|---|---|");
+    println!("| corpus | proved | p99 | second | p99 | scan | second / proved | proved / scan |");
+    println!("|---|---|---|---|---|---|---|---|");
     let mut small = None;
     for corpus in CORPORA {
         let times = checked(&corpus)?;
         println!(
-            "| {} | {:.2} | {:.2} | {:.2} | {:.2} | {:.3} | {:.1} | {:.1} | {} |",
+            "| {} | {:.2} | {:.2} | {:.2} | {:.2} | {:.3} | {:.1} | {:.1} |",
             corpus.title(),
             times.proved.mean,
             times.proved.p99,
@@ -61,8 +61,7 @@ fn tables() -> Result<(), String> {
             times.second.p99,
             times.scan.mean,
             times.second.mean / times.proved.mean,
-            times.proved.mean / times.scan.mean,
-            corpus.reference
+            times.proved.mean / times.scan.mean
         );
         small.get_or_insert(times.proved.mean);
     }
