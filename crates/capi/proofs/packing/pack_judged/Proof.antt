@@ -15,6 +15,9 @@ returns c = rw (c .before .before .answer .given .1) (c .verdict .ensures)
 returns-2 : tie.Need-returns-2
 returns-2 c = rw (c .before .before .answer2 .given .1) (c .verdict2 .ensures)
 
+returns-3 : tie.Need-returns-3
+returns-3 c = search needs
+
 pub pack-judged-spec : {M : Type 1} → statement M
 pack-judged-spec =
     tie.close
@@ -27,4 +30,4 @@ pack-judged-spec =
     (λ c κs. search needs)
     returns
     returns-2
-    (λ c. search needs))
+    returns-3)
