@@ -11,7 +11,7 @@ use lib.ListN.{length}
 use Rattle.model.specs.Cxl0.{Location, Topology, WellFormed, isMachine, isLocation, named, allNamed}
 use Rattle.model.specs.Cxl0.{LStore, RStore, MStore, Load, LFlush, RFlush, Crash, Propagate, WriteBack}
 use Rattle.model.specs.Cxl0.{Event, Action, event, silent, Run, events, silents, count, isStore, isLoad}
-use Rattle.model.specs.OneLocation.{Local, eventAt, silentAt, concerns}
+use Rattle.model.specs.OneLocation.{Local, eventAt, silentAt, concerns, locationOf}
 use Rattle.model.specs.OneLocation.{possibleAt, nextAt, startAt, runsAt}
 use Rattle.model.proofs.Tests.{and-l, and-r, by-test, T→true, not→false, ne→test}
 use Rattle.model.specs.Sums.{sum}
@@ -20,21 +20,21 @@ use Rattle.model.proofs.Potential.{one, rank, rank-start, gain, loss, r
 use Rattle.model.proofs.Split.{split-run}
 
 -- A listed location that action a concerns, and the only one.
-abbrev Site : Topology → Action → Type 0
-Site sys a = (y : Location) × T (isLocation sys y) × ((x : Location) → concerns x a ≡ eqb x y)
+abbrev OnlyAt : Topology → Action → Type 0
+OnlyAt sys a = (y : Location) × T (isLocation sys y) × ((x : Location) → concerns x a ≡ eqb x y)
 
 -- An action concerns one location, or it is a crash, which may add nothing and has nothing to take away.
-site : (sys : Topology) (a : Action) → T (named sys a) → Site sys a ⊎ ((gain a ≡ 0) × (loss a ≡ 0))
-unfolding named concerns eventAt silentAt gain loss isStore isLoad
-site sys (event (LStore i y v)) m = inl (y, and-r (isMachine sys i) (isLocation sys y) m, λ x. refl)
-site sys (event (RStore i y v)) m = inl (y, and-r (isMachine sys i) (isLocation sys y) m, λ x. refl)
-site sys (event (MStore i y v)) m = inl (y, and-r (isMachine sys i) (isLocation sys y) m, λ x. refl)
-site sys (event (Load i y v)) m = inl (y, and-r (isMachine sys i) (isLocation sys y) m, λ x. refl)
-site sys (event (LFlush i y)) m = inl (y, and-r (isMachine sys i) (isLocation sys y) m, λ x. refl)
-site sys (event (RFlush i y)) m = inl (y, and-r (isMachine sys i) (isLocation sys y) m, λ x. refl)
-site sys (event (Crash i)) m = inr (refl, refl)
-site sys (silent (Propagate i y)) m = inl (y, and-r (isMachine sys i) (isLocation sys y) m, λ x. refl)
-site sys (silent (WriteBack y)) m = inl (y, m, λ x. refl)
+only-at : (sys : Topology) (a : Action) → T (named sys a) → OnlyAt sys a ⊎ ((gain a ≡ 0) × (loss a ≡ 0))
+unfolding named concerns eventAt locationOf silentAt gain loss isStore isLoad
+only-at sys (event (LStore i y v)) m = inl (y, and-r (isMachine sys i) (isLocation sys y) m, λ x. refl)
+only-at sys (event (RStore i y v)) m = inl (y, and-r (isMachine sys i) (isLocation sys y) m, λ x. refl)
+only-at sys (event (MStore i y v)) m = inl (y, and-r (isMachine sys i) (isLocation sys y) m, λ x. refl)
+only-at sys (event (Load i y v)) m = inl (y, and-r (isMachine sys i) (isLocation sys y) m, λ x. refl)
+only-at sys (event (LFlush i y)) m = inl (y, and-r (isMachine sys i) (isLocation sys y) m, λ x. refl)
+only-at sys (event (RFlush i y)) m = inl (y, and-r (isMachine sys i) (isLocation sys y) m, λ x. refl)
+only-at sys (event (Crash i)) m = inr (refl, refl)
+only-at sys (silent (Propagate i y)) m = inl (y, and-r (isMachine sys i) (isLocation sys y) m, λ x. refl)
+only-at sys (silent (WriteBack y)) m = inl (y, m, λ x. refl)
 
 -- The potential of all locations together.
 total : Topology → (Location → Local) → ℕ
@@ -57,7 +57,7 @@ module _ (sys : Topology) (w : WellFormed sys) (a : Action) (m : T (named sys a)
   elsewhere x e = rw e (omega arith)
 
   -- The sum changes as at the one location that the action concerns, and a crash adds nowhere.
-  at-one : Site sys a → total sys then + loss a ≤ total sys f + gain a
+  at-one : OnlyAt sys a → total sys then + loss a ≤ total sys f + gain a
   unfolding total isLocation
   at-one u =
       let y = u .0 in
@@ -77,7 +77,7 @@ module _ (sys : Topology) (w : WellFormed sys) (a : Action) (m : T (named sys a)
 
   -- Each action changes the potential of all locations by no more than it may at one.
   total-step : total sys then + loss a ≤ total sys f + gain a
-  total-step = ⊎-elim at-one (λ u. omega (arith, at-all (u .0) (u .1))) (site sys a m)
+  total-step = ⊎-elim at-one (λ u. omega (arith, at-all (u .0) (u .1))) (only-at sys a m)
 
 -- What a list of events may add.
 abbrev budget : List Event → ℕ

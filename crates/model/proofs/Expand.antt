@@ -11,9 +11,9 @@ use lib.Pow.{pow-pos}
 use Rattle.model.specs.Cxl0.{Machine, Location, Value, Topology, isMachine, isLocation, owner, initial}
 use Rattle.model.specs.Cxl0.{WellFormed, start, holds, agrees, someMachine, everyMachine, cached}
 use Rattle.model.specs.Cxl0.{LStore, RStore, MStore, Load, LFlush, RFlush, Crash, Propagate, WriteBack}
-use Rattle.model.specs.Cxl0.{Action, event, silent, crashes, named, enabled, possible, next, runs}
+use Rattle.model.specs.Cxl0.{Action, event, silent, crashes, clears, named, enabled, possible, next, runs}
 use Rattle.model.specs.Sharers.{has, insert, remove}
-use Rattle.model.specs.OneLocation.{Local, expand, concerns, eventAt, silentAt, enabledAt}
+use Rattle.model.specs.OneLocation.{Local, expand, concerns, eventAt, silentAt, enabledAt, locationOf, siteOf}
 use Rattle.model.specs.OneLocation.{moved, effect, nextAt, startAt}
 use Rattle.model.proofs.Tests.{by-test, T→true, not→false, and-l, and-r, ne-test, same-test}
 use Rattle.model.proofs.Machines.{every-e, every-i}
@@ -57,7 +57,7 @@ every-agrees n s v h t =
 
 load-enabled : (sys : Topology) (f : Location → Local) → InRange sys f
     → (i : Machine) (x : Location) (v : Value)
-    → enabled sys (event (Load i x v)) (expand f) ≡ enabledAt sys x (event (Load i x v)) (f x)
+    → enabled sys (event (Load i x v)) (expand f) ≡ enabledAt (siteOf sys x) (event (Load i x v)) (f x)
 unfolding enabled enabledAt expand
 load-enabled sys f r i x v =
     rw (cached-expand sys f r x)
@@ -67,8 +67,8 @@ load-enabled sys f r i x v =
 
 -- What an action asks of the whole system, it asks of the short form of each location that it concerns.
 pub enabled-expand : (sys : Topology) (f : Location → Local) → InRange sys f → (a : Action) (x : Location)
-    → T (concerns x a) → enabled sys a (expand f) ≡ enabledAt sys x a (f x)
-unfolding enabled enabledAt expand concerns eventAt silentAt
+    → T (concerns x a) → enabled sys a (expand f) ≡ enabledAt (siteOf sys x) a (f x)
+unfolding enabled enabledAt siteOf expand concerns eventAt locationOf silentAt
 enabled-expand sys f r (event (LStore i y v)) x t = refl
 enabled-expand sys f r (event (RStore i y v)) x t = refl
 enabled-expand sys f r (event (MStore i y v)) x t = refl
@@ -162,13 +162,13 @@ owner-bounds sys w i x n =
 
 -- Each location that an action concerns is as the action asks.
 abbrev Here : Topology → (Location → Local) → Action → Type 0
-Here sys f a = (x : Location) → T (concerns x a) → T (enabledAt sys x a (f x))
+Here sys f a = (x : Location) → T (concerns x a) → T (enabledAt (siteOf sys x) a (f x))
 
 load-cache : (sys : Topology) (f : Location → Local) → InRange sys f
     → (i : Machine) (x : Location) (v : Value) → 1 ≤ i → Here sys f (event (Load i x v))
     → (j : Machine) (y : Location)
     → next sys (event (Load i x v)) (expand f) .cache j y ≡ shown j (nextAt sys y (event (Load i x v)) (f y))
-unfolding next nextAt expand concerns eventAt effect enabledAt
+unfolding next nextAt expand concerns eventAt locationOf effect enabledAt
 load-cache sys f r i x v l h j y =
     rw (cached-expand sys f r x)
     (by-test (eqb (f x .code) 0)
@@ -185,7 +185,7 @@ load-cache sys f r i x v l h j y =
 next-cache : (sys : Topology) (f : Location → Local) → WellFormed sys → InRange sys f → (a : Action)
     → T (named sys a) → Here sys f a → (j : Machine) (y : Location)
     → next sys a (expand f) .cache j y ≡ shown j (nextAt sys y a (f y))
-unfolding named next nextAt expand concerns eventAt silentAt effect crashes enabledAt
+unfolding named next nextAt siteOf expand concerns eventAt locationOf silentAt effect crashes enabledAt
 next-cache sys f w r (event (LStore i x v)) n h j y =
     place (shown j) (eqb y x) _ (f y) _ (λ t. one-shown i j v (by-bounds sys i x n .0))
 next-cache sys f w r (event (RStore i x v)) n h j y =
@@ -210,7 +210,7 @@ memory-of s = s .memory
 -- After an action the short forms show what the memories hold.
 next-memory : (sys : Topology) (f : Location → Local) (a : Action) → Here sys f a → (y : Location)
     → next sys a (expand f) .memory y ≡ nextAt sys y a (f y) .memory
-unfolding next nextAt expand concerns eventAt silentAt effect enabledAt memory-of
+unfolding next nextAt siteOf expand concerns eventAt locationOf silentAt effect enabledAt memory-of clears
 next-memory sys f (event (LStore i x v)) h y = kept memory-of (eqb y x) (f y) _ (λ t. refl)
 next-memory sys f (event (RStore i x v)) h y = kept memory-of (eqb y x) (f y) _ (λ t. refl)
 next-memory sys f (event (MStore i x v)) h y = place memory-of (eqb y x) v (f y) _ (λ t. refl)
@@ -269,8 +269,8 @@ branch P true s t f g = f tt
 branch P false s t f g = g tt
 
 effect-bound : (sys : Topology) (x : Location) → WellFormed sys → (a : Action) (s : Local) → T (named sys a)
-    → T (concerns x a) → s .code < 2 ^ sys .machines → effect sys x a s .code < 2 ^ sys .machines
-unfolding named concerns eventAt silentAt effect moved
+    → T (concerns x a) → s .code < 2 ^ sys .machines → effect (siteOf sys x) a s .code < 2 ^ sys .machines
+unfolding named concerns eventAt locationOf silentAt effect siteOf moved
 effect-bound sys x w (event (LStore i y v)) s n t h =
     insert-bound-of (sys .machines) i 0 (by-bounds sys i y n) (pow-pos (sys .machines))
 effect-bound sys x w (event (RStore i y v)) s n t h =
@@ -295,7 +295,7 @@ pub nextAt-bound : (sys : Topology) (x : Location) → WellFormed sys → (a : A
     → T (named sys a) → s .code < 2 ^ sys .machines → nextAt sys x a s .code < 2 ^ sys .machines
 unfolding nextAt
 nextAt-bound sys x w a s n h =
-    branch (λ (t : Local). t .code < 2 ^ sys .machines) (concerns x a) (effect sys x a s) s
+    branch (λ (t : Local). t .code < 2 ^ sys .machines) (concerns x a) (effect (siteOf sys x) a s) s
     (λ t. effect-bound sys x w a s n t h)
     (λ t. h)
 

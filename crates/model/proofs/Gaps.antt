@@ -4,7 +4,7 @@ use mathlib.Core.Logic.{_↔_}
 use mathlib.Core.List.{List, [], _∷_, nil≢cons, head-eq-of-cons-eq, tail-eq-of-cons-eq}
 use lib.Dec.{T}
 use Rattle.model.specs.Cxl0.{Location, Topology, Event, Silent, Action, event, silent, events}
-use Rattle.model.specs.OneLocation.{Local, silentAt, concerns, enabledAt, effect, possibleAt, nextAt}
+use Rattle.model.specs.OneLocation.{Local, silentAt, concerns, enabledAt, effect, possibleAt, nextAt, siteOf}
 use Rattle.model.specs.OneLocation.{runsAt, ownSteps, HasRunAt, Silently, still, step}
 use Rattle.model.proofs.Tests.{and-l, and-r, and-i, T→true}
 
@@ -24,12 +24,12 @@ module _ (sys : Topology) (x : Location) where
 
   -- A silent step of x is possible where it is enabled, and has its effect.
   own-possible : (a : Silent) (s : Local) → T (silentAt x a)
-      → possibleAt sys x (silent a) s ≡ enabledAt sys x (silent a) s
+      → possibleAt sys x (silent a) s ≡ enabledAt (siteOf sys x) (silent a) s
   unfolding possibleAt concerns
   own-possible a s t = rw (T→true {b = silentAt x a} t)
 
   own-next : (a : Silent) (s : Local) → T (silentAt x a)
-      → nextAt sys x (silent a) s ≡ effect sys x (silent a) s
+      → nextAt sys x (silent a) s ≡ effect (siteOf sys x) (silent a) s
   unfolding nextAt concerns
   own-next a s t = rw (T→true {b = silentAt x a} t)
 
@@ -50,8 +50,8 @@ module _ (sys : Topology) (x : Location) where
       let owns = and-r (silentAt x a) (ownSteps x acts) o in
       let enabled = rw (own-possible a s own) at (and-l can rest r) in
       let runs = rw (own-next a s own) at (and-r can rest r) in
-      let f = first acts e es (effect sys x (silent a) s) p owns runs in
-      (f .0, step a (and-i (silentAt x a) (enabledAt sys x (silent a) s) own enabled) (f .1), f .2, f .3)
+      let f = first acts e es (effect (siteOf sys x) (silent a) s) p owns runs in
+      (f .0, step a (and-i (silentAt x a) (enabledAt (siteOf sys x) (silent a) s) own enabled) (f .1), f .2, f .3)
 
   -- A gap before a run makes a run.
   pub after-gap : {s t : Local} → Silently sys x s t
@@ -61,8 +61,8 @@ module _ (sys : Topology) (x : Location) where
   after-gap still acts o r = (acts, refl, o, r)
   after-gap (step {s} a p g) acts o r =
       let m = after-gap g acts o r in
-      let own = and-l (silentAt x a) (enabledAt sys x (silent a) s) p in
-      let enabled = and-r (silentAt x a) (enabledAt sys x (silent a) s) p in (
+      let own = and-l (silentAt x a) (enabledAt (siteOf sys x) (silent a) s) p in
+      let enabled = and-r (silentAt x a) (enabledAt (siteOf sys x) (silent a) s) p in (
         silent a ∷ m .0,
         m .1,
         and-i (silentAt x a) (ownSteps x (m .0)) own (m .2),

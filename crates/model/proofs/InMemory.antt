@@ -12,7 +12,7 @@ use Rattle.model.specs.Cxl0.{WellFormed, State, holds, someMachine, cach
 use Rattle.model.specs.Cxl0.{LStore, RStore, MStore, Load, LFlush, RFlush, Crash, Propagate, WriteBack}
 use Rattle.model.specs.Cxl0.{Event, Silent, Action, event, silent, named, enabled, possible, next}
 use Rattle.model.specs.Cxl0.{runs, after, events, count, isStore}
-use Rattle.model.specs.OneLocation.{concerns, eventAt, silentAt}
+use Rattle.model.specs.OneLocation.{concerns, eventAt, silentAt, locationOf}
 use Rattle.model.specs.Goes.{Goes, NoStore}
 use Rattle.model.proofs.Tests.{by-test, T→true, not→false, and-l, and-r}
 use Rattle.model.proofs.Machines.{none-e, none-i}
@@ -27,7 +27,7 @@ InMemory sys x m s = T (not (cached sys s x)) × (s .memory x ≡ m)
 
 apart-cache : (sys : Topology) (x : Location) (a : Action) (s : State) → T (not (concerns x a))
     → (j : Machine) → next sys a s .cache j x ≡ s .cache j x
-unfolding next concerns eventAt silentAt
+unfolding next concerns eventAt locationOf silentAt
 apart-cache sys x (event (LStore i y v)) s d j = rw (not→false {b = eqb x y} d)
 apart-cache sys x (event (RStore i y v)) s d j = rw (not→false {b = eqb x y} d)
 apart-cache sys x (event (MStore i y v)) s d j = rw (not→false {b = eqb x y} d)
@@ -43,7 +43,7 @@ apart-cache sys x (silent (WriteBack y)) s d j = rw (not→false {b = eqb x y} d
 
 apart-memory : (sys : Topology) (x : Location) (a : Action) (s : State) → T (not (concerns x a))
     → next sys a s .memory x ≡ s .memory x
-unfolding next concerns eventAt silentAt
+unfolding next concerns eventAt locationOf silentAt
 apart-memory sys x (event (LStore i y v)) s d = refl
 apart-memory sys x (event (RStore i y v)) s d = refl
 apart-memory sys x (event (MStore i y v)) s d = rw (not→false {b = eqb x y} d)
@@ -86,7 +86,7 @@ crash-cached sys x i s h =
 event-kept : (sys : Topology) (x : Location) (m : Value) → T (sys .persistent (owner sys x))
     → (e : Event) (s : State) → T (eventAt x e) → T (not (isStore e))
     → InMemory sys x m s → InMemory sys x m (next sys (event e) s)
-unfolding next eventAt isStore crashes clears
+unfolding next eventAt locationOf isStore crashes clears
 event-kept sys x m p (LStore i y v) s t n h = absurd n
 event-kept sys x m p (RStore i y v) s t n h = absurd n
 event-kept sys x m p (MStore i y v) s t n h = absurd n

@@ -10,7 +10,7 @@ use lib.ListN.{length, take}
 use Rattle.model.specs.Cxl0.{Topology, WellFormed, isMachine, isLocation, owner, initial}
 use Rattle.model.specs.Cxl0.{Event, crashes, clears, named, allNamed, FirstImpossible}
 use Rattle.model.specs.Sharers.{has, insert, remove}
-use Rattle.model.specs.OneLocation.{concerns, eventAt, moved, enabledAt, effect}
+use Rattle.model.specs.OneLocation.{concerns, eventAt, moved, enabledAt, effect, locationOf, siteOf}
 use Rattle.model.specs.OneLocation.{possibleAt, nextAt, startAt}
 use Rattle.model.specs.Meaning.{ownersFit}
 use Rattle.model.specs.MarkedLogs.{Verdict, MarkedLog, log, three, persistent, volatile, logs}
@@ -62,7 +62,7 @@ unfolding
     logs log three persistent volatile
     allRight right ownersFit judged decide everyBelow good someSilent someMoved
     isMachine isLocation owner initial crashes clears named allNamed has insert remove
-    concerns eventAt enabledAt moved effect possibleAt nextAt startAt
+    concerns eventAt locationOf enabledAt siteOf moved effect possibleAt nextAt startAt
 all-right = tt
 
 -- Each marked log has a well-formed system and its verdict.

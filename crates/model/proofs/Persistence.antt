@@ -12,7 +12,7 @@ use Rattle.model.specs.Cxl0.{LStore, MStore, Load, LFlush, RFlush, Crash
 use Rattle.model.specs.Cxl0.{Event, Action, event, named, allNamed, enabled, possible, next}
 use Rattle.model.specs.Cxl0.{runs, after, Run, events, HasRun}
 use Rattle.model.specs.Sharers.{has, insert, remove}
-use Rattle.model.specs.OneLocation.{concerns, eventAt, moved, enabledAt, effect}
+use Rattle.model.specs.OneLocation.{concerns, eventAt, moved, enabledAt, effect, locationOf, siteOf}
 use Rattle.model.specs.OneLocation.{possibleAt, nextAt, startAt}
 use Rattle.model.specs.Meaning.{ownersFit}
 use Rattle.model.specs.MarkedLogs.{three, persistent, L0}
@@ -101,5 +101,5 @@ pub figure-5 :
 unfolding
     three persistent decide everyBelow good someSilent someMoved
     isMachine isLocation owner initial crashes clears named allNamed has insert remove
-    concerns eventAt enabledAt moved effect possibleAt nextAt startAt
+    concerns eventAt locationOf enabledAt siteOf moved effect possibleAt nextAt startAt
 figure-5 = (allowed _ tt, allowed _ tt, allowed _ tt, impossible _ tt, impossible _ tt)

@@ -11,7 +11,7 @@ use Rattle.model.specs.Cxl0.{Machine, Location, Topology, isMachine, isL
 use Rattle.model.specs.Cxl0.{LStore, RStore, MStore, Load, LFlush, RFlush, Crash, Propagate, WriteBack}
 use Rattle.model.specs.Cxl0.{Action, event, silent, isStore, isLoad}
 use Rattle.model.specs.Sharers.{has, insert, remove}
-use Rattle.model.specs.OneLocation.{Local, enabledAt, effect, moved, startAt}
+use Rattle.model.specs.OneLocation.{Local, enabledAt, effect, moved, startAt, siteOf}
 use Rattle.model.proofs.Tests.{and-l, and-r, T→true, not→false, ne→test}
 use Rattle.model.proofs.Sharers.{has-insert, has-remove, has-none, remove-le}
 use Rattle.model.proofs.Expand.{machine-bounds}
@@ -148,9 +148,9 @@ loss (silent a) = 1
 
 -- An action that concerns x takes this away from x's potential and adds no more than that.
 pub rank-step : (sys : Topology) (x : Location) (a : Action) (s : Local)
-    → T (isMachine sys (owner sys x)) → T (named sys a) → T (enabledAt sys x a s)
-    → rank sys x (effect sys x a s) + loss a ≤ rank sys x s + gain a
-unfolding rank named enabledAt effect gain loss isStore isLoad
+    → T (isMachine sys (owner sys x)) → T (named sys a) → T (enabledAt (siteOf sys x) a s)
+    → rank sys x (effect (siteOf sys x) a s) + loss a ≤ rank sys x s + gain a
+unfolding rank named enabledAt siteOf effect gain loss isStore isLoad
 rank-step sys x (event (LStore i y v)) s o m t =
     let h = machine-bounds sys i (and-l (isMachine sys i) (isLocation sys y) m) in
     omega (arith, after-store (sys .machines) (owner sys x) i h)

@@ -9,7 +9,7 @@ use mathlib.Core.Bool.{Bool, not, _&&_, _||_}
 use lib.Dec.{T, T-not, eqb, eqb-refl}
 use Rattle.model.specs.Cxl0.{Machine, Location, Topology, owner, Propagate, WriteBack}
 use Rattle.model.specs.Sharers.{has, remove}
-use Rattle.model.specs.OneLocation.{Local, moved, silentAt, enabledAt, effect}
+use Rattle.model.specs.OneLocation.{Local, moved, silentAt, enabledAt, effect, siteOf}
 use Rattle.model.specs.OneLocation.{Moves, stay, move, Silently, still, step, recoded, written, Reaches}
 use Rattle.model.proofs.Tests.{and-r, and-i, or-l, by-test, ne→test}
 use Rattle.model.proofs.Sharers.{has-insert, has-remove, has-none, insert-bound, remove-le, member}
@@ -55,7 +55,7 @@ below-power (suc c) = omega (arith, below-power c, pow-suc 2 c)
 module _ (sys : Topology) (x : Location) where
   -- Silent steps have the normal form.
   settle : {s t : Local} → Silently sys x s t → Reaches (owner sys x) s t
-  unfolding effect enabledAt
+  unfolding effect siteOf enabledAt
   settle still = (refl, inl (refl, stay))
   settle (step {s} (Propagate i y) p r) =
       let other : Bool = not (eqb i (owner sys x)) in
@@ -72,7 +72,7 @@ module _ (sys : Topology) (x : Location) where
   -- A move is a silent step, and so a chain of moves is made of silent steps.
   propagate : (i : Machine) {s t : Local} → T (not (eqb i (owner sys x)) && has i (s .code))
       → Silently sys x (recoded (moved (owner sys x) i (s .code)) s) t → Silently sys x s t
-  unfolding silentAt enabledAt effect
+  unfolding silentAt enabledAt siteOf effect
   propagate i {s} p r =
       let can : Bool = not (eqb i (owner sys x)) && has i (s .code) in
       step (Propagate i x) (and-i (eqb x x) can (eqb-refl x) p) r
@@ -83,7 +83,7 @@ module _ (sys : Topology) (x : Location) where
 
   -- Where the owner holds a copy, one step writes it back.
   write-back : (s : Local) → T (has (owner sys x) (s .code)) → Silently sys x s (written s)
-  unfolding silentAt enabledAt effect
+  unfolding silentAt enabledAt siteOf effect
   write-back s p = step (WriteBack x) (and-i (eqb x x) (has (owner sys x) (s .code)) (eqb-refl x) p) still
 
   -- Where any machine holds a copy, two steps do.

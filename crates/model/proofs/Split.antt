@@ -15,7 +15,7 @@ use Rattle.model.specs.Cxl0.{LStore, RStore, MStore, Load, LFlush, RFlus
 use Rattle.model.specs.Cxl0.{Event, Silent, Action, event, silent, named, enabled, possible, allNamed}
 use Rattle.model.specs.Cxl0.{next, runs, Run, events, HasRun}
 use Rattle.model.specs.Sharers.{has}
-use Rattle.model.specs.OneLocation.{Local, expand, concerns, eventAt, silentAt, enabledAt, possibleAt}
+use Rattle.model.specs.OneLocation.{Local, expand, concerns, eventAt, silentAt, enabledAt, possibleAt, locationOf, siteOf}
 use Rattle.model.specs.OneLocation.{nextAt, startAt, runsAt, ownSteps, ownOf, HasRunAt}
 use Rattle.model.proofs.Tests.{by-test, T→true, and-i, and-l, and-r, ne-test}
 use Rattle.model.proofs.Sharers.{has-bound}
@@ -36,11 +36,11 @@ runsAt-first sys x a acts s t =
 
 -- An action is possible at x exactly if it is enabled there as far as it concerns x.
 possible-here : (sys : Topology) (x : Location) (a : Action) (s : Local)
-    → T (possibleAt sys x a s) ↔ (T (concerns x a) → T (enabledAt sys x a s))
+    → T (possibleAt sys x a s) ↔ (T (concerns x a) → T (enabledAt (siteOf sys x) a s))
 unfolding possibleAt
 possible-here sys x a s = (
   λ p c. rw (T→true {b = concerns x a} c) at p,
-  λ f. branch T (concerns x a) (enabledAt sys x a s) true f (λ c. tt),
+  λ f. branch T (concerns x a) (enabledAt (siteOf sys x) a s) true f (λ c. tt),
 )
 
 -- A list that runs on the whole system runs at every location.
@@ -63,7 +63,7 @@ apart sys w (a ∷ acts) f r t =
 -- An action of the system is enabled, if it is so where it concerns a location of the system.
 enabled-named : (sys : Topology) (a : Action) (s : State) → T (named sys a)
     → ((x : Location) → T (isLocation sys x) → T (concerns x a) → T (enabled sys a s)) → T (enabled sys a s)
-unfolding named enabled concerns eventAt silentAt
+unfolding named enabled concerns eventAt locationOf silentAt
 enabled-named sys (event (LStore i x v)) s n h = tt
 enabled-named sys (event (RStore i x v)) s n h = tt
 enabled-named sys (event (MStore i x v)) s n h = tt
@@ -167,7 +167,7 @@ named-events sys (silent a ∷ acts) t =
 silent-named : (sys : Topology) (x : Location) → T (isLocation sys x) → (a : Silent) (s : Local)
     → s .code < 2 ^ sys .machines → T (silentAt x a) → T (possibleAt sys x (silent a) s)
     → T (named sys (silent a))
-unfolding named concerns silentAt enabledAt isMachine
+unfolding named concerns silentAt enabledAt siteOf isMachine
 silent-named sys x l (Propagate i y) s h t p =
     let e = possible-here sys x (silent (Propagate i y)) s .0 p t in
     let b = has-bound (sys .machines) i (s .code) h (and-r (not (eqb i (owner sys x))) (has i (s .code)) e) in

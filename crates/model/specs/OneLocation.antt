@@ -3,11 +3,11 @@
 use Prim.Native.Nat.{ℕ}
 use mathlib.Core.Path.{_≡_}
 use mathlib.Core.Logic.{_≢_, _⊎_}
-use mathlib.Core.Bool.{Bool, true, cond, not, _&&_}
+use mathlib.Core.Bool.{Bool, true, false, cond, not, _&&_}
 use mathlib.Core.List.{List, [], _∷_}
-use mathlib.Core.Option.{none, some}
+use mathlib.Core.Option.{Option, none, some}
 use lib.Dec.{T, eqb}
-use Rattle.model.specs.Cxl0.{Machine, Location, Value, Topology, owner, initial, State, clears, events}
+use Rattle.model.specs.Cxl0.{Machine, Location, Value, Topology, owner, initial, State, crashes, events}
 use Rattle.model.specs.Cxl0.{Event, LStore, RStore, MStore, Load, LFlush, RFlush, Crash}
 use Rattle.model.specs.Cxl0.{Silent, Propagate, WriteBack, Action, event, silent}
 use Rattle.model.specs.Sharers.{has, insert, remove}
@@ -27,15 +27,39 @@ expand f =
       memory = λ x. f x .memory;
     }
 
--- The location of an action; a crash has none.
+-- The location that an event names; a crash names none.
+unfoldable pub locationOf : Event → Option Location
+locationOf (LStore i y v) = some y
+locationOf (RStore i y v) = some y
+locationOf (MStore i y v) = some y
+locationOf (Load i y v) = some y
+locationOf (LFlush i y) = some y
+locationOf (RFlush i y) = some y
+locationOf (Crash i) = none
+
+abbrev pub isHere : Location → Option Location → Bool
+isHere x (some y) = eqb x y
+isHere x none = false
+
+abbrev pub isNowhere : Option Location → Bool
+isNowhere (some y) = false
+isNowhere none = true
+
+abbrev pub isHereOrNowhere : Location → Option Location → Bool
+isHereOrNowhere x (some y) = eqb x y
+isHereOrNowhere x none = true
+
+-- The event names location x.
+unfoldable pub ownEvent : Location → Event → Bool
+ownEvent x e = isHere x (locationOf e)
+
+-- The event names no location.
+unfoldable pub isCrash : Event → Bool
+isCrash e = isNowhere (locationOf e)
+
+-- The event concerns location x: it names it, or it is a crash, which concerns every location.
 unfoldable pub eventAt : Location → Event → Bool
-eventAt x (LStore i y v) = eqb x y
-eventAt x (RStore i y v) = eqb x y
-eventAt x (MStore i y v) = eqb x y
-eventAt x (Load i y v) = eqb x y
-eventAt x (LFlush i y) = eqb x y
-eventAt x (RFlush i y) = eqb x y
-eventAt x (Crash i) = true
+eventAt x e = isHereOrNowhere x (locationOf e)
 
 unfoldable pub silentAt : Location → Silent → Bool
 silentAt x (Propagate i y) = eqb x y
@@ -46,47 +70,62 @@ unfoldable pub concerns : Location → Action → Bool
 concerns x (event e) = eventAt x e
 concerns x (silent s) = silentAt x s
 
--- What an action that concerns x asks of x's short form.
-unfoldable pub enabledAt : Topology → Location → Action → Local → Bool
-enabledAt sys x (event (LStore i y v)) s = true
-enabledAt sys x (event (RStore i y v)) s = true
-enabledAt sys x (event (MStore i y v)) s = true
-enabledAt sys x (event (Load i y v)) s = cond (eqb (s .code) 0) (eqb (s .memory) v) (eqb (s .copy) v)
-enabledAt sys x (event (LFlush i y)) s = not (has i (s .code))
-enabledAt sys x (event (RFlush i y)) s = eqb (s .code) 0
-enabledAt sys x (event (Crash i)) s = true
-enabledAt sys x (silent (Propagate i y)) s = not (eqb i (owner sys x)) && has i (s .code)
-enabledAt sys x (silent (WriteBack y)) s = has (owner sys x) (s .code)
+-- What an action at a location depends on beside its short form: the location's owner, whether a crash of the owner clears
+-- its memory, and the value that memory has at the start and after such a crash.
+pub record Site : Type 0 where
+  pub owner : Machine
+  pub volatile : Bool
+  pub initial : Value
+
+unfoldable pub siteOf : Topology → Location → Site
+siteOf sys x =
+    record { owner = owner sys x; volatile = not (sys .persistent (owner sys x)); initial = initial sys x }
+
+-- An event clears the memory of the site: it crashes the owner, whose memory is volatile.
+abbrev pub clearsSite : Event → Site → Bool
+clearsSite e k = crashes e (k .owner) && k .volatile
+
+-- What an action that concerns a location asks of its short form.
+unfoldable pub enabledAt : Site → Action → Local → Bool
+enabledAt k (event (LStore i y v)) s = true
+enabledAt k (event (RStore i y v)) s = true
+enabledAt k (event (MStore i y v)) s = true
+enabledAt k (event (Load i y v)) s = cond (eqb (s .code) 0) (eqb (s .memory) v) (eqb (s .copy) v)
+enabledAt k (event (LFlush i y)) s = not (has i (s .code))
+enabledAt k (event (RFlush i y)) s = eqb (s .code) 0
+enabledAt k (event (Crash i)) s = true
+enabledAt k (silent (Propagate i y)) s = not (eqb i (k .owner)) && has i (s .code)
+enabledAt k (silent (WriteBack y)) s = has (k .owner) (s .code)
 
 -- One propagation: machine i's copy goes to the owner k.
 unfoldable pub moved : Machine → Machine → ℕ → ℕ
 moved k i c = insert k (remove i c)
 
--- x's short form after an action that concerns x.
-unfoldable pub effect : Topology → Location → Action → Local → Local
-effect sys x (event (LStore i y v)) s = record { code = insert i 0; copy = v; memory = s .memory }
-effect sys x (event (RStore i y v)) s = record { code = insert (owner sys x) 0; copy = v; memory = s .memory }
-effect sys x (event (MStore i y v)) s = record { code = 0; copy = s .copy; memory = v }
-effect sys x (event (Load i y v)) s =
+-- The short form of a location after an action that concerns it.
+unfoldable pub effect : Site → Action → Local → Local
+effect k (event (LStore i y v)) s = record { code = insert i 0; copy = v; memory = s .memory }
+effect k (event (RStore i y v)) s = record { code = insert (k .owner) 0; copy = v; memory = s .memory }
+effect k (event (MStore i y v)) s = record { code = 0; copy = s .copy; memory = v }
+effect k (event (Load i y v)) s =
     record { code = cond (eqb (s .code) 0) 0 (insert i (s .code)); copy = s .copy; memory = s .memory }
-effect sys x (event (LFlush i y)) s = s
-effect sys x (event (RFlush i y)) s = s
-effect sys x (event (Crash i)) s =
+effect k (event (LFlush i y)) s = s
+effect k (event (RFlush i y)) s = s
+effect k (event (Crash i)) s =
     record {
       code = remove i (s .code);
       copy = s .copy;
-      memory = cond (clears sys (Crash i) x) (initial sys x) (s .memory);
+      memory = cond (clearsSite (Crash i) k) (k .initial) (s .memory);
     }
-effect sys x (silent (Propagate i y)) s =
-    record { code = moved (owner sys x) i (s .code); copy = s .copy; memory = s .memory }
-effect sys x (silent (WriteBack y)) s = record { code = 0; copy = s .copy; memory = s .copy }
+effect k (silent (Propagate i y)) s =
+    record { code = moved (k .owner) i (s .code); copy = s .copy; memory = s .memory }
+effect k (silent (WriteBack y)) s = record { code = 0; copy = s .copy; memory = s .copy }
 
 -- An action elsewhere is always possible here and changes nothing.
 unfoldable pub possibleAt : Topology → Location → Action → Local → Bool
-possibleAt sys x a s = cond (concerns x a) (enabledAt sys x a s) true
+possibleAt sys x a s = cond (concerns x a) (enabledAt (siteOf sys x) a s) true
 
 unfoldable pub nextAt : Topology → Location → Action → Local → Local
-nextAt sys x a s = cond (concerns x a) (effect sys x a s) s
+nextAt sys x a s = cond (concerns x a) (effect (siteOf sys x) a s) s
 
 unfoldable pub startAt : Topology → Location → Local
 startAt sys x = record { code = 0; copy = 0; memory = initial sys x }
@@ -126,8 +165,8 @@ pub data Moves (k : Machine) : ℕ → ℕ → Type 0 where
 pub data Silently (sys : Topology) (x : Location) : Local → Local → Type 0 where
   still : {s : Local} → Silently sys x s s
   step : {s t : Local} (a : Silent)
-      → T (silentAt x a && enabledAt sys x (silent a) s)
-      → Silently sys x (effect sys x (silent a) s) t
+      → T (silentAt x a && enabledAt (siteOf sys x) (silent a) s)
+      → Silently sys x (effect (siteOf sys x) (silent a) s) t
       → Silently sys x s t
 
 -- A short form with another code, which is what moves make of it, and with its copies written back.
