@@ -1,28 +1,11 @@
--- An action at one location: the entry of its effect, byte by byte, and what that entry stands for.
-use Prim.Native.Nat.{ℕ, _<_, _≤_, _%_, _^_}
-use native.Mathlib.Nat.{mod-lt, mod-eq-of-lt, lt-of-lt-of-le}
-use native.Mathlib.Omega.{arith}
-use mathlib.Core.Path.{_≡_}
-use mathlib.Core.Bool.{Bool, _&&_}
-use lib.Dec.{T}
-use lib.Pow.{pow-pos, pow-mono}
-use Rattle.model.specs.Cxl0.{Location, Action, named}
-use Rattle.model.specs.OneLocation.{Local, concerns, enabledAt, effect, nextAt}
-use Rattle.model.specs.Meaning.{topologyOf, withinLimits}
-use Rattle.model.specs.declared.Topology as topology
-use Rattle.entries.specs.Entries.{localOf, entryOf, entryAfter}
+-- The entry of an action's effect, byte by byte.
+use Prim.Native.Nat.{ℕ, _<_}
+use native.Mathlib.Nat.{mod-eq-of-lt}
+use mathlib.Core.Path.{_≡_, refl, sym}
+use mathlib.Core.Bool.{Bool}
+use Rattle.entries.specs.Entries.{shortOf, entryOf}
 use Rattle.entries.specs.declared.Entry as entry
 use Rattle.entries.specs.declared.Acted as acted
-use Rattle.model.proofs.Tests.{and-l, and-r, T→true}
-use Rattle.model.proofs.Limits.{within}
-use Rattle.model.proofs.Expand.{nextAt-bound}
-
--- Whether an action is enabled where location x has entry e, and x's short form after it.
-abbrev pub asked : topology.Topology → Action → Location → entry.Entry → Bool
-asked t a x e = enabledAt (topologyOf t) x a (localOf (t .machines) e)
-
-abbrev pub made : topology.Topology → Action → Location → entry.Entry → Local
-made t a x e = effect (topologyOf t) x a (localOf (t .machines) e)
 
 -- Entries with the same copy are equal if their sharers and memory are, and answers if what they say is.
 
@@ -36,30 +19,7 @@ pub same-acted : {b d : Bool} {e f : entry.Entry} → b ≡ d → e ≡ f
     → _≡_ {A = acted.Acted} (record { enabled = b; entry = e }) (record { enabled = d; entry = f })
 same-acted p q = λ i. record { enabled = p i; entry = q i }
 
--- An entry's code is one of the system's machines.
-pub local-range : (n : ℕ) (e : entry.Entry) → localOf n e .code < 2 ^ n
-unfolding localOf
-local-range n e = mod-lt (e .sharers) (pow-pos n)
-
--- The topology is within the limits and has the machines and the location that an action names.
-unfoldable pub admits : topology.Topology → Action → Bool
-admits t a = withinLimits t && named (topologyOf t) a
-
--- The code of a set of at most 6 machines is read back from its byte.
-byte-code : (n c : ℕ) → n ≤ 6 → c < 2 ^ n → c % 256 % 2 ^ n ≡ c
-byte-code n c k l =
-    let m : n ≤ 8 = omega arith in
-    let h : c < 256 = lt-of-lt-of-le l (pow-mono m) in
-    rw (mod-eq-of-lt h) (mod-eq-of-lt l)
-
--- Where the topology admits an action that concerns x, the entry of x after it stands for its effect.
-pub stands : (t : topology.Topology) (a : Action) (x : Location) → T (concerns x a) → T (admits t a)
-    → (e : entry.Entry) → localOf (t .machines) (entryAfter t a x e) ≡ made t a x e
-unfolding admits topologyOf nextAt localOf entryOf entryAfter
-stands t a x here h e =
-    let w = within t (and-l (withinLimits t) (named (topologyOf t) a) h) in
-    let n = and-r (withinLimits t) (named (topologyOf t) a) h in
-    let r = local-range (t .machines) e in
-    let l = nextAt-bound (topologyOf t) x (w .well-formed) a (localOf (t .machines) e) n r in
-    let k = byte-code (t .machines) _ (w .machines-few) (rw (T→true {b = concerns x a} here) at l) in
-    λ i. record { code = k i; copy = made t a x e .copy; memory = made t a x e .memory }
+-- An entry stands for its short form, and the short form for the entry.
+pub entry-same : (e : entry.Entry) → e .sharers < 256 → e ≡ entryOf (shortOf e)
+unfolding shortOf entryOf
+entry-same e h = same-entry (sym (mod-eq-of-lt h)) refl

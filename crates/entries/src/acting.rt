@@ -1,42 +1,23 @@
 // What each action makes of the entry of its location. Names that the system does not have are for the state
 // to refuse; the equations hold for them too.
 ghost use mathlib.Core.Path.{_≡_};
-ghost use Rattle.model.specs.Cxl0.{event, LStore, RStore, MStore, Load, LFlush, RFlush, Crash, clears};
+ghost use Rattle.model.specs.Cxl0.{event, LStore, RStore, MStore, Load, LFlush, RFlush, Crash};
 ghost use Rattle.model.specs.Cxl0.{silent, Propagate, WriteBack};
-ghost use Rattle.model.specs.Meaning.{topologyOf};
-ghost use Rattle.entries.specs.Entries.{localOf, entryOf, entryAfter, actedOf};
+ghost use Rattle.entries.specs.Entries.{siteMeant, maskedTo, actedOf, actedBy};
 use super::Acted;
 use super::Entry;
-use model::Location;
+use super::Site;
+use model::Event;
 use model::Machine;
-use model::Topology;
 use model::codes::bit;
 use model::codes::up_to;
 
-// A crash of machine i clears the memory of location x: i owns it, and its memory is volatile.
-fn is_lost(t: Topology, i: Machine, x: Location) -> bool
-    ensures { λ r. ⌜ r ≡ clears (topologyOf t) (Crash (i .0)) (x .0) ⌝ }
-{
-    let k = t.owner(x);
-    let persistent = t.persistent;
-    k.is(i) & (persistent & bit(k) == 0)
-}
-
 impl Entry {
-    // The machines of the system whose caches hold a copy.
-    pub(crate) fn code(self, t: Topology) -> u8
-        ensures { λ r. ⌜ r ≡ localOf (t .machines) self .code ⌝ }
+    // The entry with the copies of machines 1 to n and no others.
+    pub fn masked(self, n: u8) -> Entry
+        ensures { λ r. ⌜ r ≡ maskedTo n self ⌝ }
     {
-        let c = self.sharers;
-        let n = t.machines;
-        up_to(n, c)
-    }
-
-    // The entry with the bits of the system's machines and no others.
-    fn masked(self, t: Topology) -> Entry
-        ensures { λ r. ⌜ r ≡ entryOf (localOf (t .machines) self) ⌝ }
-    {
-        let sharers = self.code(t);
+        let sharers = up_to(n, self.sharers);
         Entry {
             sharers,
             copy: self.copy,
@@ -44,13 +25,13 @@ impl Entry {
         }
     }
 
-    // i's cache gets v; every other cache loses x.
-    pub fn l_store(self, t: Topology, i: Machine, x: Location, v: u32) -> Acted
-        ensures { λ r. ⌜ r ≡ actedOf t (event (LStore (i .0) (x .0) v)) (x .0) self ⌝ }
+    // The storing machine's cache gets the value; every other cache loses its copy.
+    fn l_store(self, site: Site, e: Event) -> Acted
+        ensures { λ r. ⌜ r ≡ actedOf (siteMeant site) (event (LStore (e .machine .0) (e .location .0) (e .value))) self ⌝ }
     {
         let entry = Entry {
-            sharers: bit(i),
-            copy: v,
+            sharers: bit(e.machine),
+            copy: e.value,
             memory: self.memory,
         };
         Acted {
@@ -59,14 +40,13 @@ impl Entry {
         }
     }
 
-    // The owner's cache gets v; every other cache loses x.
-    pub fn r_store(self, t: Topology, i: Machine, x: Location, v: u32) -> Acted
-        ensures { λ r. ⌜ r ≡ actedOf t (event (RStore (i .0) (x .0) v)) (x .0) self ⌝ }
+    // The owner's cache gets the value; every other cache loses its copy.
+    fn r_store(self, site: Site, e: Event) -> Acted
+        ensures { λ r. ⌜ r ≡ actedOf (siteMeant site) (event (RStore (e .machine .0) (e .location .0) (e .value))) self ⌝ }
     {
-        let k = t.owner(x);
         let entry = Entry {
-            sharers: bit(k),
-            copy: v,
+            sharers: bit(site.owner),
+            copy: e.value,
             memory: self.memory,
         };
         Acted {
@@ -75,14 +55,14 @@ impl Entry {
         }
     }
 
-    // Memory gets v; every cache loses x.
-    pub fn m_store(self, t: Topology, i: Machine, x: Location, v: u32) -> Acted
-        ensures { λ r. ⌜ r ≡ actedOf t (event (MStore (i .0) (x .0) v)) (x .0) self ⌝ }
+    // Memory gets the value; every cache loses its copy.
+    fn m_store(self, site: Site, e: Event) -> Acted
+        ensures { λ r. ⌜ r ≡ actedOf (siteMeant site) (event (MStore (e .machine .0) (e .location .0) (e .value))) self ⌝ }
     {
         let stored = Entry {
             sharers: 0,
             copy: self.copy,
-            memory: v,
+            memory: e.value,
         };
         Acted {
             enabled: true,
@@ -90,84 +70,103 @@ impl Entry {
         }
     }
 
-    // If no cache holds x, memory must hold v, and nothing changes. If one does, it must hold v, and i's
-    // cache gets v too.
-    pub fn load(self, t: Topology, i: Machine, x: Location, v: u32) -> Acted
-        ensures { λ r. ⌜ r ≡ actedOf t (event (Load (i .0) (x .0) v)) (x .0) self ⌝ }
+    // If there is no copy, memory must hold the value, and nothing changes. If there is one, it must have the
+    // value, and the loading machine's cache gets it too.
+    fn load(self, site: Site, e: Event) -> Acted
+        ensures { λ r. ⌜ r ≡ actedOf (siteMeant site) (event (Load (e .machine .0) (e .location .0) (e .value))) self ⌝ }
     {
-        let c = self.code(t);
-        let mine = bit(i);
-        let copy = self.copy;
-        let memory = self.memory;
+        let c = self.sharers;
+        let v = e.value;
         if c == 0 {
             return Acted {
-                enabled: memory == v,
-                entry: self.masked(t),
+                enabled: self.memory == v,
+                entry: self,
             };
         }
         let entry = Entry {
-            sharers: c | mine,
-            copy,
+            sharers: c | bit(e.machine),
+            copy: self.copy,
+            memory: self.memory,
+        };
+        Acted {
+            enabled: self.copy == v,
+            entry,
+        }
+    }
+
+    // Possible if the flushing machine's cache has no copy.
+    fn l_flush(self, site: Site, e: Event) -> Acted
+        ensures { λ r. ⌜ r ≡ actedOf (siteMeant site) (event (LFlush (e .machine .0) (e .location .0))) self ⌝ }
+    {
+        let c = self.sharers;
+        let mine = bit(e.machine);
+        Acted {
+            enabled: c & mine == 0,
+            entry: self,
+        }
+    }
+
+    // Possible if no cache has a copy.
+    fn r_flush(self, site: Site, e: Event) -> Acted
+        ensures { λ r. ⌜ r ≡ actedOf (siteMeant site) (event (RFlush (e .machine .0) (e .location .0))) self ⌝ }
+    {
+        let c = self.sharers;
+        Acted {
+            enabled: c == 0,
+            entry: self,
+        }
+    }
+
+    // The crashed machine loses its copy. If it is the owner and its memory is volatile, memory begins again.
+    fn crash(self, site: Site, e: Event) -> Acted
+        ensures { λ r. ⌜ r ≡ actedOf (siteMeant site) (event (Crash (e .machine .0))) self ⌝ }
+    {
+        let i = e.machine;
+        let c = self.sharers;
+        let sharers = c & !bit(i);
+        let lost = site.owner.is(i) & site.volatile;
+        let memory = if lost { site.initial } else { self.memory };
+        let entry = Entry {
+            sharers,
+            copy: self.copy,
             memory,
         };
         Acted {
-            enabled: copy == v,
+            enabled: true,
             entry,
         }
     }
 
-    // Possible if i's cache holds nothing for x.
-    pub fn l_flush(self, t: Topology, i: Machine, x: Location) -> Acted
-        ensures { λ r. ⌜ r ≡ actedOf t (event (LFlush (i .0) (x .0))) (x .0) self ⌝ }
+    // An event by its operation number. One that is no operation's is not possible.
+    pub fn act(self, site: Site, e: Event) -> Acted
+        ensures { λ r. ⌜ r ≡ actedBy (siteMeant site) e self ⌝ }
     {
-        let c = self.code(t);
-        let mine = bit(i);
-        let entry = self.masked(t);
-        Acted {
-            enabled: c & mine == 0,
-            entry,
+        let operation = e.operation;
+        match operation {
+            1 => self.l_store(site, e),
+            2 => self.r_store(site, e),
+            3 => self.m_store(site, e),
+            4 => self.load(site, e),
+            5 => self.l_flush(site, e),
+            6 => self.r_flush(site, e),
+            7 => self.crash(site, e),
+            0 => Acted {
+                enabled: false,
+                entry: self,
+            },
+            8..=255 => Acted {
+                enabled: false,
+                entry: self,
+            },
         }
     }
 
-    // Possible if no cache holds x.
-    pub fn r_flush(self, t: Topology, i: Machine, x: Location) -> Acted
-        ensures { λ r. ⌜ r ≡ actedOf t (event (RFlush (i .0) (x .0))) (x .0) self ⌝ }
+    // The moving machine, which is not the owner, loses its copy, and the owner's cache gets it.
+    pub fn propagate(self, site: Site, i: Machine) -> Acted
+        ensures { λ r. ⌜ r ≡ actedOf (siteMeant site) (silent (Propagate (i .0) (site .location .0))) self ⌝ }
     {
-        let c = self.code(t);
-        let same = self.masked(t);
-        Acted {
-            enabled: c == 0,
-            entry: same,
-        }
-    }
-
-    // What a crash of machine i leaves of the entry of location x.
-    pub fn crashed(self, t: Topology, i: Machine, x: Location) -> Entry
-        ensures { λ r. ⌜ r ≡ entryAfter t (event (Crash (i .0))) (x .0) self ⌝ }
-    {
-        let c = self.code(t);
-        let sharers = c & !bit(i);
-        let copy = self.copy;
-        if is_lost(t, i, x) {
-            return Entry {
-                sharers,
-                copy,
-                memory: 0,
-            };
-        }
-        Entry {
-            sharers,
-            copy,
-            memory: self.memory,
-        }
-    }
-
-    // i, which is not the owner, loses x, and the owner's cache gets the value that i's held.
-    pub fn propagate(self, t: Topology, i: Machine, x: Location) -> Acted
-        ensures { λ r. ⌜ r ≡ actedOf t (silent (Propagate (i .0) (x .0))) (x .0) self ⌝ }
-    {
-        let c = self.code(t);
-        let k = t.owner(x);
+        let c = self.sharers;
+        let k = site.owner;
         let mine = bit(i);
         let entry = Entry {
             sharers: c & !mine | bit(k),
@@ -180,12 +179,12 @@ impl Entry {
         }
     }
 
-    // Memory gets the value that the owner's cache holds, and every cache loses x.
-    pub fn write_back(self, t: Topology, x: Location) -> Acted
-        ensures { λ r. ⌜ r ≡ actedOf t (silent (WriteBack (x .0))) (x .0) self ⌝ }
+    // Memory gets the value that the owner's cache holds, and every cache loses its copy.
+    pub fn write_back(self, site: Site) -> Acted
+        ensures { λ r. ⌜ r ≡ actedOf (siteMeant site) (silent (WriteBack (site .location .0))) self ⌝ }
     {
-        let c = self.code(t);
-        let owners = bit(t.owner(x));
+        let c = self.sharers;
+        let owners = bit(site.owner);
         let written = Entry {
             sharers: 0,
             copy: self.copy,

@@ -1,10 +1,13 @@
-// One location of a system, as a state keeps it, with a method for each action at it: whether the entry
-// enables the action, and the entry after it. specs/Entries.antt says what an entry means and what the
-// answer to an action is.
+// One location of a system, as a state keeps it, with what each action makes of it: whether the entry enables the
+// action, and the entry after it. specs/Entries.antt says what an entry means and what the answer to an action is.
 mod acting;
+mod sites;
+
+use model::Location;
+use model::Machine;
 
 // One location: bit i - 1 of `sharers` is set if machine i's cache holds a copy, all copies have the value
-// `copy`, and `memory` is the value in memory. Bits of machines that the system does not have say nothing.
+// `copy`, and `memory` is the value in memory.
 pub struct Entry {
     pub sharers: u8,
     pub copy: u32,
@@ -17,6 +20,15 @@ pub const EMPTY: Entry = Entry {
     copy: 0,
     memory: 0,
 };
+
+// What an action at a location depends on beside its entry: the owner, whether a crash of the owner clears the memory,
+// and the value that memory has at the start and after such a crash.
+pub struct Site {
+    pub location: Location,
+    pub owner: Machine,
+    pub volatile: bool,
+    pub initial: u32,
+}
 
 // The answer to an action: whether the entry enables it, and the entry after it.
 pub struct Acted {

@@ -11,13 +11,14 @@ use lib.ListN.{length}
 use Rattle.model.specs.Cxl0.{Location, Topology, WellFormed, isMachine, isLocation, named, allNamed}
 use Rattle.model.specs.Cxl0.{LStore, RStore, MStore, Load, LFlush, RFlush, Crash, Propagate, WriteBack}
 use Rattle.model.specs.Cxl0.{Event, Action, event, silent, Run, events, silents, count, isStore, isLoad}
-use Rattle.model.specs.OneLocation.{Local, eventAt, silentAt, concerns, locationOf}
+use Rattle.model.specs.OneLocation.{Local, silentAt, concerns}
 use Rattle.model.specs.OneLocation.{possibleAt, nextAt, startAt, runsAt}
 use Rattle.model.proofs.Tests.{and-l, and-r, by-test, T→true, not→false, ne→test}
 use Rattle.model.specs.Sums.{sum}
 use Rattle.model.proofs.Sums.{sum-zero, sum-le, sum-at}
 use Rattle.model.proofs.Potential.{one, rank, rank-start, gain, loss, rank-step}
 use Rattle.model.proofs.Split.{split-run}
+use Rattle.model.proofs.Locations.{located, named-location}
 
 -- A listed location that action a concerns, and the only one.
 abbrev OnlyAt : Topology → Action → Type 0
@@ -25,14 +26,12 @@ OnlyAt sys a = (y : Location) × T (isLocation sys y) × ((x : Location) → con
 
 -- An action concerns one location, or it is a crash, which may add nothing and has nothing to take away.
 only-at : (sys : Topology) (a : Action) → T (named sys a) → OnlyAt sys a ⊎ ((gain a ≡ 0) × (loss a ≡ 0))
-unfolding named concerns eventAt locationOf silentAt gain loss isStore isLoad
-only-at sys (event (LStore i y v)) m = inl (y, and-r (isMachine sys i) (isLocation sys y) m, λ x. refl)
-only-at sys (event (RStore i y v)) m = inl (y, and-r (isMachine sys i) (isLocation sys y) m, λ x. refl)
-only-at sys (event (MStore i y v)) m = inl (y, and-r (isMachine sys i) (isLocation sys y) m, λ x. refl)
-only-at sys (event (Load i y v)) m = inl (y, and-r (isMachine sys i) (isLocation sys y) m, λ x. refl)
-only-at sys (event (LFlush i y)) m = inl (y, and-r (isMachine sys i) (isLocation sys y) m, λ x. refl)
-only-at sys (event (RFlush i y)) m = inl (y, and-r (isMachine sys i) (isLocation sys y) m, λ x. refl)
-only-at sys (event (Crash i)) m = inr (refl, refl)
+unfolding named concerns silentAt gain loss isStore isLoad
+only-at sys (event e) m =
+    ⊎-elim
+    (λ at. inl (at .0, named-location sys e (at .1) m, at .2))
+    (λ crash. inr (rw (crash .1) (refl, refl)))
+    (located e)
 only-at sys (silent (Propagate i y)) m = inl (y, and-r (isMachine sys i) (isLocation sys y) m, λ x. refl)
 only-at sys (silent (WriteBack y)) m = inl (y, m, λ x. refl)
 

@@ -26,3 +26,4 @@ pub mod Weaving
 pub mod Bits
 pub mod Limits
 pub mod Theorems
+pub mod Locations

@@ -5,21 +5,22 @@ use Prim.Native.Nat.{ℕ, zero, suc, _≤_, _<_, _^_}
 use native.Mathlib.Nat.{not-suc-le-zero}
 use native.Mathlib.Omega.{arith}
 use mathlib.Core.Path.{_≡_, refl, sym, ap, _∙_}
-use mathlib.Core.Logic.{_↔_}
+use mathlib.Core.Logic.{⊎-elim, _↔_}
 use mathlib.Core.Bool.{true, not, _&&_}
 use mathlib.Core.List.{List, [], _∷_, map}
 use lib.Dec.{T, leb, eqb, eqb→eq, eqb-refl, le→leb, ltb→lt, lt→ltb}
 use lib.ListN.{length}
 use Rattle.model.specs.Cxl0.{Location, Topology, isMachine, isLocation, owner, WellFormed, State}
-use Rattle.model.specs.Cxl0.{LStore, RStore, MStore, Load, LFlush, RFlush, Crash, Propagate, WriteBack}
+use Rattle.model.specs.Cxl0.{Propagate, WriteBack}
 use Rattle.model.specs.Cxl0.{Event, Silent, Action, event, silent, named, enabled, possible, allNamed}
 use Rattle.model.specs.Cxl0.{next, runs, Run, events, HasRun}
 use Rattle.model.specs.Sharers.{has}
-use Rattle.model.specs.OneLocation.{Local, expand, concerns, eventAt, silentAt, enabledAt, possibleAt, locationOf, siteOf}
+use Rattle.model.specs.OneLocation.{Local, expand, concerns, silentAt, enabledAt, possibleAt, siteOf}
 use Rattle.model.specs.OneLocation.{nextAt, startAt, runsAt, ownSteps, ownOf, HasRunAt}
 use Rattle.model.proofs.Tests.{by-test, T→true, and-i, and-l, and-r, ne-test}
 use Rattle.model.proofs.Sharers.{has-bound}
 use Rattle.model.proofs.Expand.{InRange, branch, enabled-expand, next-expand, nextAt-bound}
+use Rattle.model.proofs.Locations.{located, named-location}
 use Rattle.model.proofs.Expand.{next-inRange, runs-first, start-expand, start-inRange}
 use Rattle.model.proofs.Merge.{merge, swap, events-merge, each, and-map, each-merge}
 use Rattle.model.proofs.Merge.{elsewhere, events-elsewhere, own-elsewhere, skip, runs-merge}
@@ -63,14 +64,12 @@ apart sys w (a ∷ acts) f r t =
 -- An action of the system is enabled, if it is so where it concerns a location of the system.
 enabled-named : (sys : Topology) (a : Action) (s : State) → T (named sys a)
     → ((x : Location) → T (isLocation sys x) → T (concerns x a) → T (enabled sys a s)) → T (enabled sys a s)
-unfolding named enabled concerns eventAt locationOf silentAt
-enabled-named sys (event (LStore i x v)) s n h = tt
-enabled-named sys (event (RStore i x v)) s n h = tt
-enabled-named sys (event (MStore i x v)) s n h = tt
-enabled-named sys (event (Load i x v)) s n h = h x (and-r (isMachine sys i) (isLocation sys x) n) (eqb-refl x)
-enabled-named sys (event (LFlush i x)) s n h = h x (and-r (isMachine sys i) (isLocation sys x) n) (eqb-refl x)
-enabled-named sys (event (RFlush i x)) s n h = h x (and-r (isMachine sys i) (isLocation sys x) n) (eqb-refl x)
-enabled-named sys (event (Crash i)) s n h = tt
+unfolding named enabled concerns silentAt
+enabled-named sys (event e) s n h =
+    ⊎-elim
+    (λ at. h (at .0) (named-location sys e (at .1) n) (rw (at .2 (at .0)) (eqb-refl (at .0))))
+    (λ crash. rw (crash .1) tt)
+    (located e)
 enabled-named sys (silent (Propagate i x)) s n h =
     h x (and-r (isMachine sys i) (isLocation sys x) n) (eqb-refl x)
 enabled-named sys (silent (WriteBack x)) s n h = h x n (eqb-refl x)

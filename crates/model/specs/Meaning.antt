@@ -5,7 +5,7 @@ use mathlib.Core.List.{List, [], _∷_, map}
 use lib.Dec.{leb}
 use lib.ListN.{take}
 use Rattle.model.specs.Cxl0
-use Rattle.model.specs.Cxl0.{Home, Topology, State, Action, possible, next}
+use Rattle.model.specs.Cxl0.{Home, Topology, State, Event, Action, possible, next}
 use Rattle.model.specs.Operations.{isOperation, eventOf}
 use Rattle.model.specs.declared.Event as event
 use Rattle.model.specs.Sharers.{has}
@@ -44,9 +44,13 @@ attempt t a s =
     (record { possible = true; state = next (topologyOf t) a s })
     (record { possible = false; state = s })
 
+-- The event that the program's struct stands for.
+abbrev pub meant : event.Event → Event
+meant e = eventOf (e .operation) (e .machine .0) (e .location .0) (e .value)
+
 -- What is asked of an event by its operation number. A number that is no operation's is not possible.
 unfoldable pub attemptEvent : topology.Topology → event.Event → State → Outcome
 attemptEvent t e s =
     cond (isOperation (e .operation))
-    (attempt t (Cxl0.event (eventOf (e .operation) (e .machine .0) (e .location .0) (e .value))) s)
+    (attempt t (Cxl0.event (meant e)) s)
     (record { possible = false; state = s })

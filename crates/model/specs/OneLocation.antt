@@ -37,6 +37,16 @@ locationOf (LFlush i y) = some y
 locationOf (RFlush i y) = some y
 locationOf (Crash i) = none
 
+-- The machine that an event names.
+abbrev pub machineOf : Event → Machine
+machineOf (LStore i y v) = i
+machineOf (RStore i y v) = i
+machineOf (MStore i y v) = i
+machineOf (Load i y v) = i
+machineOf (LFlush i y) = i
+machineOf (RFlush i y) = i
+machineOf (Crash i) = i
+
 abbrev pub isHere : Location → Option Location → Bool
 isHere x (some y) = eqb x y
 isHere x none = false
@@ -70,8 +80,8 @@ unfoldable pub concerns : Location → Action → Bool
 concerns x (event e) = eventAt x e
 concerns x (silent s) = silentAt x s
 
--- What an action at a location depends on beside its short form: the location's owner, whether a crash of the owner clears
--- its memory, and the value that memory has at the start and after such a crash.
+-- What an action at a location depends on beside its short form: the location's owner, whether a crash of the owner
+-- clears its memory, and the value that memory has at the start and after such a crash.
 pub record Site : Type 0 where
   pub owner : Machine
   pub volatile : Bool

@@ -2,6 +2,5 @@ pub mod Rows
 pub mod Lines
 pub mod Gaps
 pub mod FineRows
-pub mod Numbered
 pub mod RowSteps
 pub mod Loads

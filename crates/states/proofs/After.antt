@@ -3,6 +3,7 @@ use Prim.Native.Nat.{ℕ, zero, suc, _+_, _%_, _^_, _<_, _≤_}
 use native.Mathlib.Nat.{not-suc-le-zero, le-of-suc-le-suc, zero-mod}
 use native.Mathlib.Omega.{arith}
 use mathlib.Core.Path.{_≡_, refl, sym, ap, ap₂, _∙_, fun-ext}
+use mathlib.Core.Logic.{⊎-elim}
 use mathlib.Core.Bool.{Bool, true, false, cond, _&&_}
 use mathlib.Core.List.{List, [], _∷_}
 use borrow.Author.Tests.{ne-eqb}
@@ -10,23 +11,24 @@ use lib.Dec.{T, eqb, ltb, ltb→lt, nltb→le}
 use lib.ListN.{length, getD, List·getD-eq-default}
 use lib.Seq.{ext-getD}
 use Rattle.model.specs.Cxl0.{Machine, Location, isMachine, isLocation, initial, clears}
-use Rattle.model.specs.Cxl0.{LStore, RStore, MStore, Load, LFlush, RFlush, Crash, Propagate, WriteBack}
+use Rattle.model.specs.Cxl0.{Crash, Propagate, WriteBack}
 use Rattle.model.specs.Cxl0.{Action, event, silent, named, enabled, possible, next}
 use Rattle.model.specs.Sharers.{remove}
-use Rattle.model.specs.OneLocation.{Local, expand, concerns, eventAt, silentAt, effect, nextAt}
+use Rattle.model.specs.OneLocation.{Local, expand, concerns, silentAt, eventAt, locationOf, siteOf, effect, nextAt}
 use Rattle.model.specs.Meaning.{topologyOf, withinLimits, attempt}
 use Rattle.model.specs.declared.Topology as topology
-use Rattle.entries.specs.Entries.{localOf, emptyEntry}
+use Rattle.entries.specs.Entries.{shortOf, maskedTo, emptyEntry}
 use Rattle.entries.specs.declared.Entry as entry
-use Rattle.states.specs.States.{entryAt, stateOf, outcomeOf}
+use Rattle.states.specs.States.{entryAt, localOf, stateOf, outcomeOf}
 use Rattle.states.specs.States.{nextEntry, entriesAfter, stateAfter, answer, steppedOf}
 use Rattle.states.specs.declared.State as state
 use Rattle.states.specs.declared.Stepped as stepped
 use Rattle.model.proofs.Tests.{and-i, and-l, and-r, by-test, T→true, not→false}
 use Rattle.model.proofs.Sharers.{remove-le}
+use Rattle.model.proofs.Locations.{located, named-location}
 use Rattle.model.proofs.Limits.{listed-below, within}
 use Rattle.model.proofs.Expand.{InRange, next-expand}
-use Rattle.entries.proofs.Effects.{local-range, admits, stands}
+use Rattle.states.proofs.Effects.{local-range, admits, stands}
 
 -- The short forms of a state's locations.
 abbrev pub forms : topology.Topology → state.State → Location → Local
@@ -90,17 +92,13 @@ module _ (t : topology.Topology) (y : Location) (none : T (isLocation (topologyO
   elsewhere : (x : Location) → T (isLocation (topologyOf t) x) → (s : Local) → cond (eqb y x) s empty ≡ empty
   elsewhere x l s = rw (ne-eqb y x (λ e. none (rw e l)))
 
-  by-machine : (i : Machine) (x : Location) → T (isMachine (topologyOf t) i && isLocation (topologyOf t) x)
-      → (s : Local) → cond (eqb y x) s empty ≡ empty
-  by-machine i x n = elsewhere x (and-r (isMachine (topologyOf t) i) (isLocation (topologyOf t) x) n)
-
   same : (b : Bool) (n : ℕ) → cond b n n ≡ n
   same true n = refl
   same false n = refl
 
   -- A crash finds nothing to lose.
-  nothing-lost : (i : Machine) → effect (topologyOf t) y (event (Crash i)) empty ≡ empty
-  unfolding localOf effect initial
+  nothing-lost : (i : Machine) → effect (siteOf (topologyOf t) y) (event (Crash i)) empty ≡ empty
+  unfolding localOf shortOf maskedTo effect siteOf clears initial
   nothing-lost i =
       let z = zero-mod (2 ^ t .machines) in
       let r = remove-le i (0 % 2 ^ t .machines) in
@@ -109,15 +107,14 @@ module _ (t : topology.Topology) (y : Location) (none : T (isLocation (topologyO
 
   -- So no action of the system changes an empty entry there.
   idle : (a : Action) → T (named (topologyOf t) a) → nextAt (topologyOf t) y a empty ≡ empty
-  unfolding nextAt named concerns eventAt silentAt
-  idle (event (LStore i x v)) n = by-machine i x n _
-  idle (event (RStore i x v)) n = by-machine i x n _
-  idle (event (MStore i x v)) n = by-machine i x n _
-  idle (event (Load i x v)) n = by-machine i x n _
-  idle (event (LFlush i x)) n = by-machine i x n _
-  idle (event (RFlush i x)) n = by-machine i x n _
-  idle (event (Crash i)) n = nothing-lost i
-  idle (silent (Propagate i x)) n = by-machine i x n _
+  unfolding nextAt named concerns silentAt eventAt locationOf
+  idle (event e) n =
+      ⊎-elim
+      (λ at. rw (at .2 y) (elsewhere (at .0) (named-location (topologyOf t) e (at .1) n) _))
+      (λ crash. rw (crash .1) (nothing-lost (crash .0)))
+      (located e)
+  idle (silent (Propagate i x)) n =
+      elsewhere x (and-r (isMachine (topologyOf t) i) (isLocation (topologyOf t) x) n) _
   idle (silent (WriteBack x)) n = elsewhere x n _
 
 -- ---- the whole system

@@ -6,19 +6,24 @@ use mathlib.Core.Path.{_≡_, sym, ap, _∙_}
 use mathlib.Core.Bool.{Bool, cond, _&&_, and-true}
 use mathlib.Core.Logic.{_≢_}
 use borrow.Author.Tests.{lt-ltb, le-ltb}
-use lib.Dec.{eqb, ltb, eqb→eq, ltb→lt, lt→ltb}
+use lib.Dec.{T, eqb, ltb, eqb→eq, ltb→lt, lt→ltb}
 use lib.ListN.{length, set}
 use lib.Seq.{getD-set-same, getD-set-other}
-use Rattle.model.specs.Cxl0.{Machine, Location, State, isMachine, Action, event, Crash}
+use Rattle.model.specs.Cxl0
+use Rattle.model.specs.Cxl0.{Machine, Location, State, isMachine, Event, Crash}
 use Rattle.model.specs.Cxl0.{named, enabled, possible}
-use Rattle.model.specs.OneLocation.{concerns, eventAt}
-use Rattle.model.specs.Meaning.{topologyOf, withinLimits}
-use Rattle.entries.specs.Entries.{emptyEntry, entryAfter}
-use Rattle.states.specs.States.{entryAt, stateAfter}
+use Rattle.model.specs.OneLocation.{isCrash, eventAt, concerns, siteOf}
+use Rattle.model.specs.Operations.{isOperation}
+use Rattle.model.specs.Meaning.{topologyOf, withinLimits, meant}
+use Rattle.entries.specs.Entries.{maskedTo, emptyEntry, actedOf, actedBy}
+use Rattle.states.specs.States.{entryAt, localOf, entryAfter, stateAfter}
+use Rattle.model.specs.declared.Event as event
 use Rattle.model.specs.declared.Topology as topology
 use Rattle.entries.specs.declared.Entry as entry
+use Rattle.entries.specs.declared.Acted as acted
 use Rattle.states.specs.declared.State as state
-use Rattle.model.proofs.Tests.{by-test, same-test, ne-test}
+use Rattle.model.proofs.Tests.{by-test, same-test, ne-test, T→true}
+use Rattle.model.proofs.Locations.{crash-everywhere}
 use Rattle.states.proofs.After.{all-after}
 
 before-next : (y at : ℕ) → y ≢ at → ltb y (at + 1) ≡ ltb y at
@@ -27,37 +32,49 @@ before-next y at n =
     (λ h. lt→ltb y at (omega (arith, ltb→lt y (at + 1) h)))
     (λ h. lt→ltb y (at + 1) (omega (arith, ltb→lt y at h)))
 
--- The entry of location y once the crash of machine i has gone over the locations before `at`.
-abbrev pub partly : topology.Topology → Machine → state.State → ℕ → Location → entry.Entry
-partly t i s at y = cond (ltb y at) (entryAfter t (event (Crash i)) y (entryAt s y)) (entryAt s y)
+-- The entry of location y once a crash has gone over the locations before `at`.
+abbrev pub partly : topology.Topology → Event → state.State → ℕ → Location → entry.Entry
+partly t e s at y = cond (ltb y at) (entryAfter t (Cxl0.event e) y (entryAt s y)) (entryAt s y)
 
-module _ (t : topology.Topology) (i : Machine) where
-  abbrev crash : Action
-  crash = event (Crash i)
-
-  module _ (s₀ s : state.State) (at : ℕ) (so-far : (y : Location) → entryAt s y ≡ partly t i s₀ at y) where
+module _ (t : topology.Topology) (e : Event) where
+  module _ (s₀ s : state.State) (at : ℕ) (so-far : (y : Location) → entryAt s y ≡ partly t e s₀ at y) where
     -- One more location.
-    pub turn : (e : entry.Entry) → at < length (s .entries) → e ≡ entryAfter t crash at (entryAt s at)
-        → (y : Location) → entryAt (record { entries = set (s .entries) at e }) y ≡ partly t i s₀ (at + 1) y
+    pub turn : (after : entry.Entry) → at < length (s .entries) → after ≡ entryAfter t (Cxl0.event e) at (entryAt s at)
+        → (y : Location)
+        → entryAt (record { entries = set (s .entries) at after }) y ≡ partly t e s₀ (at + 1) y
     unfolding entryAt
-    turn e l f y =
+    turn after l f y =
         by-test (eqb y at)
         (λ q.
         let k : entryAt s at ≡ entryAt s₀ at = rw (le-ltb at at (le-refl at)) at (so-far at) in
-        rw (eqb→eq y at q, getD-set-same (s .entries) at e emptyEntry l, lt-ltb at (at + 1) (omega arith))
-        (f ∙ ap (entryAfter t crash at) k))
+        rw (eqb→eq y at q, getD-set-same (s .entries) at after emptyEntry l, lt-ltb at (at + 1) (omega arith))
+        (f ∙ ap (entryAfter t (Cxl0.event e) at) k))
         (λ q.
         let n = ne-test y at q in
-        rw (getD-set-other (s .entries) at y e emptyEntry n, before-next y at n) (so-far y))
+        rw (getD-set-other (s .entries) at y after emptyEntry n, before-next y at n) (so-far y))
 
-    -- All of them.
-    pub done : length (s .entries) ≡ length (s₀ .entries) → length (s₀ .entries) ≤ at
-        → s ≡ stateAfter t crash s₀
-    unfolding concerns eventAt
-    done e l = all-after t crash s₀ s e (λ y k. rw (lt-ltb y at (omega arith)) at (so-far y))
+    -- All of them, since a crash concerns every location.
+    pub done : T (isCrash e) → length (s .entries) ≡ length (s₀ .entries) → length (s₀ .entries) ≤ at
+        → s ≡ stateAfter t (Cxl0.event e) s₀
+    unfolding concerns
+    done crash sized l =
+        all-after t (Cxl0.event e) s₀ s sized
+        (λ y k.
+        rw (T→true {b = eventAt y e} (crash-everywhere y e crash))
+        (rw (lt-ltb y at (omega arith)) at (so-far y)))
 
-  -- A machine of the system can crash in any state.
-  pub can : (s : State)
-      → (withinLimits t && isMachine (topologyOf t) i) ≡ (withinLimits t && possible (topologyOf t) crash s)
-  unfolding possible named enabled
-  can s = ap (λ (b : Bool). withinLimits t && b) (sym (and-true (isMachine (topologyOf t) i)))
+-- What an event makes of the entry of a location is the entry after it.
+pub entry-made : (t : topology.Topology) (e : event.Event) (x : Location) (held : entry.Entry) {made : acted.Acted}
+    → T (isOperation (e .operation))
+    → made ≡ actedBy (siteOf (topologyOf t) x) e (maskedTo (t .machines) held)
+    → made .entry ≡ entryAfter t (Cxl0.event (meant e)) x held
+unfolding actedBy actedOf entryAfter localOf
+entry-made t e x held is made =
+    ap (λ (m : acted.Acted). m .entry) (rw (T→true {b = isOperation (e .operation)} is) at made)
+
+-- A machine of the system can crash in any state.
+pub can : (t : topology.Topology) (i : Machine) (s : State)
+    → (withinLimits t && isMachine (topologyOf t) i)
+    ≡ (withinLimits t && possible (topologyOf t) (Cxl0.event (Crash i)) s)
+unfolding possible named enabled
+can t i s = ap (λ (b : Bool). withinLimits t && b) (sym (and-true (isMachine (topologyOf t) i)))

@@ -1,16 +1,16 @@
 -- What the program's states and answers mean, and what an action makes of them, in the words of `Cxl0`.
-use Prim.Native.Nat.{suc}
+use Prim.Native.Nat.{ℕ, suc}
 use mathlib.Core.Bool.{Bool, false, cond, _&&_}
 use mathlib.Core.List.{List, [], _∷_}
 use lib.ListN.{getD, set, replicate}
 use Rattle.model.specs.Cxl0
 use Rattle.model.specs.Cxl0.{Location, State, Action, possible}
-use Rattle.model.specs.OneLocation.{expand, concerns}
-use Rattle.model.specs.Operations.{isOperation, eventOf}
-use Rattle.model.specs.Meaning.{topologyOf, withinLimits, Outcome}
+use Rattle.model.specs.OneLocation.{Local, expand, concerns, siteOf, effect}
+use Rattle.model.specs.Operations.{isOperation}
+use Rattle.model.specs.Meaning.{topologyOf, withinLimits, Outcome, meant}
 use Rattle.model.specs.declared.Event as event
 use Rattle.model.specs.declared.Topology as topology
-use Rattle.entries.specs.Entries.{localOf, emptyEntry, entryAfter}
+use Rattle.entries.specs.Entries.{shortOf, entryOf, maskedTo, emptyEntry}
 use Rattle.entries.specs.declared.Entry as entry
 use Rattle.entries.specs.declared.Acted as acted
 use Rattle.states.specs.declared.State as state
@@ -19,6 +19,10 @@ use Rattle.states.specs.declared.Stepped as stepped
 -- The entry of a location; one past the end is empty.
 unfoldable pub entryAt : state.State → Location → entry.Entry
 entryAt s x = getD (s .entries) x emptyEntry
+
+-- The short form that an entry stands for where there are n machines. Bits above those of the machines say nothing.
+unfoldable pub localOf : ℕ → entry.Entry → Local
+localOf n e = shortOf (maskedTo n e)
 
 unfoldable pub stateOf : topology.Topology → state.State → State
 stateOf t s = expand (λ x. localOf (t .machines) (entryAt s x))
@@ -29,6 +33,10 @@ outcomeOf t r = record { possible = r .possible; state = stateOf t (r .state) }
 -- All entries empty.
 unfoldable pub startState : state.State
 startState = record { entries = replicate 32 emptyEntry }
+
+-- The entry of location x after an action that concerns it, where it was e.
+unfoldable pub entryAfter : topology.Topology → Action → Location → entry.Entry → entry.Entry
+entryAfter t a x e = entryOf (effect (siteOf (topologyOf t) x) a (localOf (t .machines) e))
 
 -- The entry of location x after an action, which changes those that it concerns and no others.
 abbrev pub nextEntry : topology.Topology → Action → Location → entry.Entry → entry.Entry
@@ -53,7 +61,7 @@ steppedOf t a s = answer (withinLimits t && possible (topologyOf t) a (stateOf t
 unfoldable pub appliedOf : topology.Topology → event.Event → state.State → stepped.Stepped
 appliedOf t e s =
     cond (isOperation (e .operation))
-    (steppedOf t (Cxl0.event (eventOf (e .operation) (e .machine .0) (e .location .0) (e .value))) s)
+    (steppedOf t (Cxl0.event (meant e)) s)
     (record { possible = false; state = s })
 
 -- The answer to an action at location x: it is possible if it is admitted and enabled, and then the entry of

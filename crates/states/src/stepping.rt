@@ -1,9 +1,13 @@
 // The steps of a whole system, one method for each event and each silent step.
 ghost use mathlib.Core.Path.{_≡_};
 ghost use mathlib.Core.Bool.{false};
+ghost use lib.Dec.{T};
 ghost use Rattle.model.specs.Cxl0.{start, event, LStore, RStore, MStore, Load, LFlush, RFlush, Crash};
 ghost use Rattle.model.specs.Cxl0.{silent, Propagate, WriteBack};
-ghost use Rattle.model.specs.Meaning.{topologyOf, attempt, attemptEvent};
+ghost use Rattle.model.specs.OneLocation.{isCrash};
+ghost use Rattle.model.specs.Operations.{isOperation};
+ghost use Rattle.model.specs.Meaning.{topologyOf, attempt, meant, attemptEvent};
+ghost use Rattle.entries.specs.Entries.{maskedTo};
 ghost use Rattle.states.specs.States.{entryAt, stateOf, outcomeOf, settle};
 ghost use Rattle.states.specs.States.{startState, stateAfter, steppedOf, appliedOf};
 use super::State;
@@ -11,11 +15,24 @@ use super::Stepped;
 use entries::Acted;
 use entries::EMPTY;
 use entries::Entry;
+use entries::Site;
 use model::Event;
 use model::LOCATIONS;
 use model::Location;
 use model::Machine;
 use model::Topology;
+
+// The event of an operation by its number, of which the event uses what it needs.
+fn numbered(operation: u8, machine: Machine, location: Location, value: u32) -> Event
+    ensures { λ r. ⌜ r ≡ record { operation = operation; machine = machine; location = location; value = value } ⌝ }
+{
+    Event {
+        operation,
+        machine,
+        location,
+        value,
+    }
+}
 
 impl State {
     // At the start no cache holds anything and memories hold 0, whatever the topology.
@@ -28,15 +45,17 @@ impl State {
         }
     }
 
-    fn entry(self, x: Location) -> Entry
-        ensures { λ r. ⌜ r ≡ entryAt self (x .0) ⌝ }
+    // The entry of a location, with the copies of the system's machines and no others.
+    fn entry(self, t: Topology, x: Location) -> Entry
+        ensures { λ r. ⌜ r ≡ maskedTo (t .machines) (entryAt self (x .0)) ⌝ }
     {
         let at = x.0 as usize;
+        let n = t.machines;
         if at < LOCATIONS {
             let e = self.entries[at];
-            e
+            e.masked(n)
         } else {
-            EMPTY
+            EMPTY.masked(n)
         }
     }
 
@@ -58,76 +77,18 @@ impl State {
         }
     }
 
-    // The actions at one location: what `Entry` makes of them, if the topology admits them.
-    pub fn l_store(self, t: Topology, i: Machine, x: Location, v: u32) -> Stepped
-        ensures { λ r. ⌜ outcomeOf t r ≡ attempt t (event (LStore (i .0) (x .0) v)) (stateOf t self) ⌝ }
-        ensures kept { λ r. ⌜ (r .possible ≡ false → r .state ≡ self) ⌝ }
-        ensures whole { λ r. ⌜ r ≡ steppedOf t (event (LStore (i .0) (x .0) v)) self ⌝ }
+    // Every entry as a crash leaves it.
+    fn crashed(mut self, t: Topology, e: Event) -> State
+        requires { ⌜ T (isOperation (e .operation)) × T (isCrash (meant e)) ⌝ }
+        ensures { λ r. ⌜ r ≡ stateAfter t (event (meant e)) self ⌝ }
     {
-        let e = self.entry(x);
-        let made = e.l_store(t, i, x, v);
-        self.settled(t.names(i, x), made, x)
-    }
-
-    pub fn r_store(self, t: Topology, i: Machine, x: Location, v: u32) -> Stepped
-        ensures { λ r. ⌜ outcomeOf t r ≡ attempt t (event (RStore (i .0) (x .0) v)) (stateOf t self) ⌝ }
-        ensures kept { λ r. ⌜ (r .possible ≡ false → r .state ≡ self) ⌝ }
-        ensures whole { λ r. ⌜ r ≡ steppedOf t (event (RStore (i .0) (x .0) v)) self ⌝ }
-    {
-        let e = self.entry(x);
-        let made = e.r_store(t, i, x, v);
-        self.settled(t.names(i, x), made, x)
-    }
-
-    pub fn m_store(self, t: Topology, i: Machine, x: Location, v: u32) -> Stepped
-        ensures { λ r. ⌜ outcomeOf t r ≡ attempt t (event (MStore (i .0) (x .0) v)) (stateOf t self) ⌝ }
-        ensures kept { λ r. ⌜ (r .possible ≡ false → r .state ≡ self) ⌝ }
-        ensures whole { λ r. ⌜ r ≡ steppedOf t (event (MStore (i .0) (x .0) v)) self ⌝ }
-    {
-        let e = self.entry(x);
-        let made = e.m_store(t, i, x, v);
-        self.settled(t.names(i, x), made, x)
-    }
-
-    pub fn load(self, t: Topology, i: Machine, x: Location, v: u32) -> Stepped
-        ensures { λ r. ⌜ outcomeOf t r ≡ attempt t (event (Load (i .0) (x .0) v)) (stateOf t self) ⌝ }
-        ensures kept { λ r. ⌜ (r .possible ≡ false → r .state ≡ self) ⌝ }
-        ensures whole { λ r. ⌜ r ≡ steppedOf t (event (Load (i .0) (x .0) v)) self ⌝ }
-    {
-        let e = self.entry(x);
-        let made = e.load(t, i, x, v);
-        self.settled(t.names(i, x), made, x)
-    }
-
-    pub fn l_flush(self, t: Topology, i: Machine, x: Location) -> Stepped
-        ensures { λ r. ⌜ outcomeOf t r ≡ attempt t (event (LFlush (i .0) (x .0))) (stateOf t self) ⌝ }
-        ensures kept { λ r. ⌜ (r .possible ≡ false → r .state ≡ self) ⌝ }
-        ensures whole { λ r. ⌜ r ≡ steppedOf t (event (LFlush (i .0) (x .0))) self ⌝ }
-    {
-        let e = self.entry(x);
-        let made = e.l_flush(t, i, x);
-        self.settled(t.names(i, x), made, x)
-    }
-
-    pub fn r_flush(self, t: Topology, i: Machine, x: Location) -> Stepped
-        ensures { λ r. ⌜ outcomeOf t r ≡ attempt t (event (RFlush (i .0) (x .0))) (stateOf t self) ⌝ }
-        ensures kept { λ r. ⌜ (r .possible ≡ false → r .state ≡ self) ⌝ }
-        ensures whole { λ r. ⌜ r ≡ steppedOf t (event (RFlush (i .0) (x .0))) self ⌝ }
-    {
-        let e = self.entry(x);
-        let made = e.r_flush(t, i, x);
-        self.settled(t.names(i, x), made, x)
-    }
-
-    // Every entry as a crash of machine i leaves it.
-    fn crashed(mut self, t: Topology, i: Machine) -> State
-        ensures { λ r. ⌜ r ≡ stateAfter t (event (Crash (i .0))) self ⌝ }
-    {
+        let n = t.machines;
         let mut at: usize = 0;
         while at < LOCATIONS {
-            let e = self.entries[at];
-            let n = at as u8;
-            let after = e.crashed(t, i, Location(n));
+            let held = self.entries[at];
+            let x = Location(at as u8);
+            let made = held.masked(n).act(Site::of(t, x), e);
+            let after = made.entry;
             self.entries[at] = after;
             at += 1;
         }
@@ -143,7 +104,7 @@ impl State {
         if t.within_limits() & t.is_machine(i) {
             Stepped {
                 possible: true,
-                state: self.crashed(t, i),
+                state: self.crashed(t, numbered(7, i, Location(0), 0)),
             }
         } else {
             Stepped {
@@ -153,13 +114,75 @@ impl State {
         }
     }
 
+    // The step of a log's event, by its operation number.
+    pub fn apply(self, t: Topology, e: Event) -> Stepped
+        ensures { λ r. ⌜ outcomeOf t r ≡ attemptEvent t e (stateOf t self) ⌝ }
+        ensures kept { λ r. ⌜ (r .possible ≡ false → r .state ≡ self) ⌝ }
+        ensures whole { λ r. ⌜ r ≡ appliedOf t e self ⌝ }
+    {
+        let x = e.location;
+        if e.operation == 7 {
+            return self.crash(t, e.machine);
+        }
+        let made = self.entry(t, x).act(Site::of(t, x), e);
+        self.settled(t.names(e.machine, x), made, x)
+    }
+
+    // The events of one location, each by its number.
+    pub fn l_store(self, t: Topology, i: Machine, x: Location, v: u32) -> Stepped
+        ensures { λ r. ⌜ outcomeOf t r ≡ attempt t (event (LStore (i .0) (x .0) v)) (stateOf t self) ⌝ }
+        ensures kept { λ r. ⌜ (r .possible ≡ false → r .state ≡ self) ⌝ }
+        ensures whole { λ r. ⌜ r ≡ steppedOf t (event (LStore (i .0) (x .0) v)) self ⌝ }
+    {
+        self.apply(t, numbered(1, i, x, v))
+    }
+
+    pub fn r_store(self, t: Topology, i: Machine, x: Location, v: u32) -> Stepped
+        ensures { λ r. ⌜ outcomeOf t r ≡ attempt t (event (RStore (i .0) (x .0) v)) (stateOf t self) ⌝ }
+        ensures kept { λ r. ⌜ (r .possible ≡ false → r .state ≡ self) ⌝ }
+        ensures whole { λ r. ⌜ r ≡ steppedOf t (event (RStore (i .0) (x .0) v)) self ⌝ }
+    {
+        self.apply(t, numbered(2, i, x, v))
+    }
+
+    pub fn m_store(self, t: Topology, i: Machine, x: Location, v: u32) -> Stepped
+        ensures { λ r. ⌜ outcomeOf t r ≡ attempt t (event (MStore (i .0) (x .0) v)) (stateOf t self) ⌝ }
+        ensures kept { λ r. ⌜ (r .possible ≡ false → r .state ≡ self) ⌝ }
+        ensures whole { λ r. ⌜ r ≡ steppedOf t (event (MStore (i .0) (x .0) v)) self ⌝ }
+    {
+        self.apply(t, numbered(3, i, x, v))
+    }
+
+    pub fn load(self, t: Topology, i: Machine, x: Location, v: u32) -> Stepped
+        ensures { λ r. ⌜ outcomeOf t r ≡ attempt t (event (Load (i .0) (x .0) v)) (stateOf t self) ⌝ }
+        ensures kept { λ r. ⌜ (r .possible ≡ false → r .state ≡ self) ⌝ }
+        ensures whole { λ r. ⌜ r ≡ steppedOf t (event (Load (i .0) (x .0) v)) self ⌝ }
+    {
+        self.apply(t, numbered(4, i, x, v))
+    }
+
+    pub fn l_flush(self, t: Topology, i: Machine, x: Location) -> Stepped
+        ensures { λ r. ⌜ outcomeOf t r ≡ attempt t (event (LFlush (i .0) (x .0))) (stateOf t self) ⌝ }
+        ensures kept { λ r. ⌜ (r .possible ≡ false → r .state ≡ self) ⌝ }
+        ensures whole { λ r. ⌜ r ≡ steppedOf t (event (LFlush (i .0) (x .0))) self ⌝ }
+    {
+        self.apply(t, numbered(5, i, x, 0))
+    }
+
+    pub fn r_flush(self, t: Topology, i: Machine, x: Location) -> Stepped
+        ensures { λ r. ⌜ outcomeOf t r ≡ attempt t (event (RFlush (i .0) (x .0))) (stateOf t self) ⌝ }
+        ensures kept { λ r. ⌜ (r .possible ≡ false → r .state ≡ self) ⌝ }
+        ensures whole { λ r. ⌜ r ≡ steppedOf t (event (RFlush (i .0) (x .0))) self ⌝ }
+    {
+        self.apply(t, numbered(6, i, x, 0))
+    }
+
     pub fn propagate(self, t: Topology, i: Machine, x: Location) -> Stepped
         ensures { λ r. ⌜ outcomeOf t r ≡ attempt t (silent (Propagate (i .0) (x .0))) (stateOf t self) ⌝ }
         ensures kept { λ r. ⌜ (r .possible ≡ false → r .state ≡ self) ⌝ }
         ensures whole { λ r. ⌜ r ≡ steppedOf t (silent (Propagate (i .0) (x .0))) self ⌝ }
     {
-        let e = self.entry(x);
-        let made = e.propagate(t, i, x);
+        let made = self.entry(t, x).propagate(Site::of(t, x), i);
         self.settled(t.names(i, x), made, x)
     }
 
@@ -168,37 +191,7 @@ impl State {
         ensures kept { λ r. ⌜ (r .possible ≡ false → r .state ≡ self) ⌝ }
         ensures whole { λ r. ⌜ r ≡ steppedOf t (silent (WriteBack (x .0))) self ⌝ }
     {
-        let e = self.entry(x);
-        let made = e.write_back(t, x);
+        let made = self.entry(t, x).write_back(Site::of(t, x));
         self.settled(t.within_limits() & t.is_location(x), made, x)
-    }
-
-    // The step of a log's event, by its operation number.
-    pub fn apply(self, t: Topology, e: Event) -> Stepped
-        ensures { λ r. ⌜ outcomeOf t r ≡ attemptEvent t e (stateOf t self) ⌝ }
-        ensures kept { λ r. ⌜ (r .possible ≡ false → r .state ≡ self) ⌝ }
-        ensures whole { λ r. ⌜ r ≡ appliedOf t e self ⌝ }
-    {
-        let o = e.operation;
-        let i = e.machine;
-        let x = e.location;
-        let v = e.value;
-        match o {
-            0 => Stepped {
-                possible: false,
-                state: self,
-            },
-            1 => self.l_store(t, i, x, v),
-            2 => self.r_store(t, i, x, v),
-            3 => self.m_store(t, i, x, v),
-            4 => self.load(t, i, x, v),
-            5 => self.l_flush(t, i, x),
-            6 => self.r_flush(t, i, x),
-            7 => self.crash(t, i),
-            8..=255 => Stepped {
-                possible: false,
-                state: self,
-            },
-        }
     }
 }

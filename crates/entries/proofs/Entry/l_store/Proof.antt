@@ -2,13 +2,13 @@
 use mathlib.Core.Path.{refl}
 use Rattle.model.specs.OneLocation.{enabledAt, effect}
 use Rattle.model.proofs.Tests.{nothing}
-use Rattle.entries.specs.Entries.{localOf, entryOf, entryAfter, actedOf}
+use Rattle.entries.specs.Entries.{shortOf, entryOf, actedOf}
 use Rattle.entries.proofs.Effects.{same-entry, same-acted}
 use Rattle.entries.proofs.Entry.l_store.Statement.{statement}
 use Rattle.entries.proofs.Entry.l_store.Tie as tie
 
 returns : tie.Need-returns
-unfolding enabledAt effect localOf entryOf entryAfter actedOf
+unfolding enabledAt effect shortOf entryOf actedOf
 returns c = same-acted refl (same-entry (c .bit .ensures) refl)
 
 pub l-store-spec : {M : Type 1} → statement M

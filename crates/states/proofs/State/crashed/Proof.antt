@@ -5,19 +5,20 @@ use native.Mathlib.Omega.{arith}
 use mathlib.Core.Path.{_≡_, sym, _∙_}
 use borrow.Author.Tests.{le-ltb}
 use lib.ListN.{length, length-set}
-use Rattle.states.specs.States.{entryAt}
+use Rattle.model.specs.Meaning.{meant}
 use Rattle.model.proofs.Tests.{nothing}
 use Rattle.model.proofs.Limits.{mapped}
-use Rattle.states.proofs.Crashes.{partly, turn, done}
+use Rattle.states.specs.States.{entryAt}
+use Rattle.states.proofs.Crashes.{partly, turn, done, entry-made}
 use Rattle.states.proofs.State.crashed.Statement.{statement}
 use Rattle.states.proofs.State.crashed.Tie as tie
 
 abbrev Inv-loop : tie.InvT-loop
-Inv-loop t i self₀ at₀ self at =
-    (length (self .entries) ≡ 32) × ((y : ℕ) → entryAt self y ≡ partly t (i .0) self₀ at y)
+Inv-loop t e self₀ n at₀ self at =
+    (length (self .entries) ≡ 32) × ((y : ℕ) → entryAt self y ≡ partly t (meant e) self₀ at y)
 
 abbrev μ-loop : tie.MeasureT-loop
-μ-loop t i self₀ at₀ self at = 32 - at
+μ-loop t e self₀ n at₀ self at = 32 - at
 
 room : (c : tie.Start Inv-loop μ-loop) → length (c .args .t1 .entries) ≡ 32
 room c = search mapped
@@ -25,14 +26,14 @@ room c = search mapped
 loop-holds : tie.Need-loop-holds Inv-loop μ-loop
 loop-holds c = (room c, λ y. rw (le-ltb y 0 (omega arith)))
 
-mul-e : tie.Need-mul-e Inv-loop μ-loop
-mul-e c = omega arith
+mul-held : tie.Need-mul-held Inv-loop μ-loop
+mul-held c = omega arith
 
-element-copy-out-e : tie.Need-element-copy-out-e Inv-loop μ-loop
-element-copy-out-e c = omega arith
+element-copy-out-held : tie.Need-element-copy-out-held Inv-loop μ-loop
+element-copy-out-held c = omega arith
 
-cast-n : tie.Need-cast-n Inv-loop μ-loop
-cast-n c = omega arith
+cast-t16 : tie.Need-cast-t16 Inv-loop μ-loop
+cast-t16 c = omega arith
 
 mul-after : tie.Need-mul-after Inv-loop μ-loop
 mul-after c = omega arith
@@ -49,16 +50,22 @@ loop-less c = omega arith
 loop-again : tie.Need-loop-again Inv-loop μ-loop
 unfolding entryAt
 loop-again c =
-    let h = c .before .before .before .before .args in
-    let l = c .before .before .before .loop in
-    let next = turn (h .t) (h .i .0) (h .t1) (l .self) (l .at) (l .inv .1) _ in
-    (length-set (l .self .entries) _ _ ∙ l .inv .0, next (omega (arith, l .inv .0)) (c .crashed .ensures))
+    let made = c .before in
+    let site = made .before in
+    let held = site .before in
+    let h = held .before .before .before .before .args in
+    let start = held .before .before .before .before in
+    let l = held .before .before .before .loop in
+    let acts = rw (site .of .ensures .0, held .masked .ensures) at (made .act .ensures) in
+    let after = entry-made (h .t) (h .e) (l .at) (entryAt (l .self) (l .at)) (start .pre .0) acts in
+    let next = turn (h .t) (meant (h .e)) (h .t1) (l .self) (l .at) (l .inv .1) _ in
+    (length-set (l .self .entries) _ _ ∙ l .inv .0, next (omega (arith, l .inv .0)) after)
 
 returns : tie.Need-returns Inv-loop μ-loop
 returns c =
     let h = c .before .before in
     let l = c .before .loop in
-    let all = done (h .args .t) (h .args .i .0) (h .args .t1) (l .self) (l .at) (l .inv .1) in
+    let all = done (h .args .t) (meant (h .args .e)) (h .args .t1) (l .self) (l .at) (l .inv .1) (h .pre .1) in
     all (l .inv .0 ∙ sym (room h)) (omega (arith, room h))
 
 pub crashed-spec : {M : Type 1} → statement M
@@ -68,9 +75,11 @@ crashed-spec =
     Inv-loop
     μ-loop
     loop-holds
-    mul-e
-    element-copy-out-e
-    cast-n
+    mul-held
+    element-copy-out-held
+    cast-t16
+    nothing
+    nothing
     nothing
     mul-after
     element-set-from-after

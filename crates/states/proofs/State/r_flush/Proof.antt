@@ -1,24 +1,14 @@
--- `r_flush` meets its contract.
-use mathlib.Core.Path.{_≡_, refl}
-use lib.ListN.{length}
-use Rattle.model.specs.Cxl0.{named}
-use Rattle.model.specs.OneLocation.{concerns, eventAt}
+-- `r_flush` meets its contract: it is the event of its number.
+use Rattle.model.specs.Operations.{isOperation, eventOf}
+use Rattle.model.specs.Meaning.{attemptEvent}
 use Rattle.model.proofs.Tests.{nothing}
-use Rattle.model.proofs.Limits.{mapped}
-use Rattle.entries.proofs.Effects.{admits}
-use Rattle.states.proofs.Settled.{settled}
+use Rattle.states.specs.States.{appliedOf}
 use Rattle.states.proofs.State.r_flush.Statement.{statement}
 use Rattle.states.proofs.State.r_flush.Tie as tie
 
-room : (c : tie.Start) → length (c .args .self .entries) ≡ 32
-room c = search mapped
-
 returns : tie.Need-returns
-unfolding admits named concerns eventAt
-returns c =
-    let found = c .before .before .before in
-    settled _ _ _ _ (λ y. refl) (room (found .before)) (found .entry .ensures)
-    (c .before .before .r-flush .ensures) (c .before .names .ensures) (c .settled .ensures)
+unfolding isOperation eventOf attemptEvent appliedOf
+returns c = rw (c .before .numbered .ensures) at (c .apply .ensures)
 
 pub r-flush-spec : {M : Type 1} → statement M
-r-flush-spec = tie.close (tie.spec nothing nothing nothing nothing returns)
+r-flush-spec = tie.close (tie.spec nothing nothing returns)

@@ -6,8 +6,8 @@ use lib.ListN.{getD, replicate}
 use Rattle.model.specs.Cxl0.{Location, initial, start}
 use Rattle.model.specs.OneLocation.{expand, startAt}
 use Rattle.model.specs.Meaning.{topologyOf}
-use Rattle.entries.specs.Entries.{localOf, emptyEntry}
-use Rattle.states.specs.States.{entryAt, stateOf, startState}
+use Rattle.entries.specs.Entries.{shortOf, maskedTo, emptyEntry}
+use Rattle.states.specs.States.{entryAt, localOf, stateOf, startState}
 use Rattle.entries.specs.declared.Entry as entry
 use Rattle.model.specs.declared.Topology as topology
 use Rattle.states.specs.declared.State as state
@@ -22,7 +22,7 @@ same (suc k) (suc x) e = same k x e
 
 -- An empty entry stands for the short form that a location has at the start.
 none : (t : topology.Topology) (x : Location) → localOf (t .machines) emptyEntry ≡ startAt (topologyOf t) x
-unfolding localOf startAt initial
+unfolding localOf shortOf maskedTo startAt initial
 none t x = λ i. record { code = zero-mod (2 ^ t .machines) i; copy = 0; memory = 0 }
 
 -- So 32 of them stand for the state at the start.
