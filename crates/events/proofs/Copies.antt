@@ -10,12 +10,12 @@ use lib.Dec.{T, eqb, eqb→eq}
 use Rattle.model.specs.Cxl0.{Event}
 use Rattle.model.specs.Operations.{isOperation}
 use Rattle.model.proofs.Tests.{by-test, ne-test}
-use Rattle.walking.specs.Scratch.{EVENTS, ROWS, eventIn, eventsFrom, eventsIn}
-use Rattle.walking.specs.Access.{WORDS, OnlyIn}
-use Rattle.walking.proofs.Frames.{getD-below, getD-above, only-wider}
-use Rattle.walking.proofs.Access.{two-read, two-only}
-use Rattle.walking.proofs.Events.{events-suc}
-use Rattle.events.specs.Linking.{LOG, headOf, operationIn, placeIn, placesFrom, placesIn, Linked}
+use Rattle.scratch.specs.Layout.{EVENTS, ROWS, WORDS, OnlyIn, LOG}
+use Rattle.scratch.specs.Words.{eventIn, eventsFrom, eventsIn}
+use Rattle.scratch.proofs.Frames.{getD-below, getD-above, only-wider}
+use Rattle.scratch.proofs.Access.{two-read, two-only}
+use Rattle.scratch.proofs.Events.{events-suc}
+use Rattle.events.specs.Linking.{headOf, operationIn, placeIn, placesFrom, placesIn, Linked}
 use Rattle.events.specs.Picking.{copied}
 use Rattle.events.proofs.Places.{atPlace}
 use Rattle.events.proofs.LogWords.{wordOf, valueOf, log-event, log-event-same, events-at, events-are}

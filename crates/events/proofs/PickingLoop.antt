@@ -13,7 +13,8 @@ use Rattle.model.specs.Cxl0.{Event, Crash}
 use Rattle.model.specs.Operations.{isOperation}
 use Rattle.model.specs.OneLocation.{eventAt}
 use Rattle.model.proofs.Tests.{by-test, T→true, not→false}
-use Rattle.walking.specs.Scratch.{EVENTS, eventsFrom, eventsIn}
+use Rattle.scratch.specs.Layout.{EVENTS}
+use Rattle.scratch.specs.Words.{eventsFrom, eventsIn}
 use Rattle.events.specs.declared.picking.Pick.{Pick}
 use Rattle.events.specs.Thinning.{ownEvent, isCrash, Thins, rest, Leads, begin}
 use Rattle.events.specs.Linking.{headOf, operationIn, nextOwnIn, nextCrashIn, placesFrom, placesIn}

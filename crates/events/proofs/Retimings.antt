@@ -8,9 +8,9 @@ use lib.ListN.{length, getD, take, drop, set}
 use lib.Seq.{slice-empty, take-suc, take-suc-set, drop-append-le, length-take-le}
 use Rattle.model.specs.Schedule.{Step}
 use Rattle.model.specs.Words.{stepOfWord}
-use Rattle.walking.specs.Scratch.{EVENTS, STEPS}
-use Rattle.walking.specs.Scratch.{countOf}
-use Rattle.walking.proofs.Frames.{only-none, only-set, only-then, only-wider, getD-below, getD-above}
+use Rattle.scratch.specs.Layout.{EVENTS, STEPS}
+use Rattle.scratch.specs.Words.{countOf}
+use Rattle.scratch.proofs.Frames.{only-none, only-set, only-then, only-wider, getD-below, getD-above}
 use Rattle.events.specs.Thinning.{retimed}
 use Rattle.events.specs.Linking.{placeIn, placesFrom, placesIn}
 use Rattle.events.specs.Retiming.{wordsBetween, Retimable, Retimed, withCount, WordRetimed}

@@ -4,9 +4,9 @@ use mathlib.Core.Bool.{cond}
 use mathlib.Core.List.{List}
 use lib.Dec.{ltb}
 use lib.ListN.{getD}
-use Rattle.walking.specs.Scratch.{EVENTS}
+use Rattle.scratch.specs.Layout.{EVENTS, LOG}
 use Rattle.events.specs.declared.picking.Pick.{Pick}
-use Rattle.events.specs.Linking.{LOG, nextOwnIn, nextCrashIn}
+use Rattle.events.specs.Linking.{nextOwnIn, nextCrashIn}
 use Rattle.events.specs.Logging.{pairAt}
 
 -- The area after event j of the log became event k.

@@ -6,9 +6,8 @@ use lib.ListN.{length, getD}
 use lib.Seq.{slice}
 use Rattle.model.specs.Schedule.{Step}
 use Rattle.model.specs.Words.{stepOfWord}
-use Rattle.walking.specs.Scratch.{EVENTS, STEPS}
-use Rattle.walking.specs.Access.{WORDS, OnlyIn}
-use Rattle.walking.specs.Scratch.{countOf}
+use Rattle.scratch.specs.Layout.{EVENTS, STEPS, WORDS, OnlyIn}
+use Rattle.scratch.specs.Words.{countOf}
 use Rattle.events.specs.Thinning.{retimed}
 use Rattle.events.specs.Linking.{placeIn, placesIn}
 

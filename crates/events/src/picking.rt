@@ -1,16 +1,15 @@
 // The events of the log that matter at a location, copied to where the search looks for events.
-use crate::logging::LOG;
 use crate::logging::head_of;
 use model::Location;
-use walking::scratch::EVENTS;
+use scratch::EVENTS;
+use scratch::LOG;
 ghost use Prim.Native.Nat.{_+_, _*_, _≤_, _<_};
 ghost use mathlib.Core.Path.{_≡_};
 ghost use mathlib.Core.List.{List};
 ghost use lib.ListN.{length, getD};
 ghost use Rattle.model.specs.Cxl0.{Event};
-ghost use Rattle.walking.specs.Scratch.{EVENTS};
-ghost use Rattle.walking.specs.Access.{WORDS, MOST};
-ghost use Rattle.events.specs.Linking.{LOG, placeIn, Linked, Picked};
+ghost use Rattle.scratch.specs.Layout.{EVENTS, WORDS, MOST, LOG};
+ghost use Rattle.events.specs.Linking.{placeIn, Linked, Picked};
 ghost use Rattle.events.specs.Picking.{copied, nearer, pickAfter, pickFrom};
 
 // The places of the next event of the location and of the next crash, and how many events have been copied.

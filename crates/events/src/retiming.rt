@@ -1,10 +1,10 @@
 // The counts of kept events in the words of steps, made places of the log.
-use walking::scratch::EVENTS;
-use walking::scratch::STEPS;
+use scratch::EVENTS;
+use scratch::STEPS;
 ghost use Prim.Native.Nat.{_≤_, _<_};
 ghost use lib.ListN.{length};
-ghost use Rattle.walking.specs.Access.{WORDS, MOST};
-ghost use Rattle.walking.specs.Scratch.{countOf};
+ghost use Rattle.scratch.specs.Layout.{WORDS, MOST};
+ghost use Rattle.scratch.specs.Words.{countOf};
 ghost use Rattle.events.specs.Retiming.{Retimable, Retimed, WordRetimed};
 
 // The word of a step, with the place of the kept event that comes next for the count of those before.

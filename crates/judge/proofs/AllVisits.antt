@@ -9,11 +9,11 @@ use lib.Seq.{slice-empty}
 use Rattle.model.specs.Cxl0.{Topology, isLocation, Event}
 use Rattle.model.specs.Meaning.{topologyOf}
 use Rattle.model.specs.declared.Topology as topology
-use Rattle.walking.specs.Scratch.{STEPS, eventsIn}
-use Rattle.walking.specs.Access.{OnlyIn}
-use Rattle.walking.proofs.Frames.{only-none, only-then, getD-above}
-use Rattle.walking.proofs.Events.{events-length}
-use Rattle.events.specs.Linking.{LOG, headOf, logged, Linked}
+use Rattle.scratch.specs.Layout.{STEPS, OnlyIn, LOG}
+use Rattle.scratch.specs.Words.{eventsIn}
+use Rattle.scratch.proofs.Frames.{only-none, only-then, getD-above}
+use Rattle.scratch.proofs.Events.{events-length}
+use Rattle.events.specs.Linking.{headOf, logged, Linked}
 use Rattle.judge.specs.Visiting.{Loaded, Visitable, Visits}
 use Rattle.judge.specs.declared.visiting.Progress.{Progress}
 use Rattle.judge.proofs.Gathering.{gathered-none}

@@ -19,14 +19,14 @@ use Rattle.model.proofs.Split.{split}
 use Rattle.model.proofs.Prefixes.{has-run-fewer}
 use Rattle.verdict_file.specs.Files.{stepsMost}
 use Rattle.verdict_file.specs.Schedules.{everyStepFits, scheduleFits}
-use Rattle.walking.specs.Scratch.{STEPS, SORTED}
-use Rattle.walking.specs.Scratch.{wordsAt, stepsAt}
-use Rattle.walking.proofs.Events.{events-length}
+use Rattle.scratch.specs.Layout.{STEPS, SORTED, LOG}
+use Rattle.scratch.specs.Words.{wordsAt, stepsAt}
+use Rattle.scratch.proofs.Events.{events-length}
 use Rattle.search.specs.Ordering.{ordered}
 use Rattle.search.proofs.Ordering.{ordered-run, ordered-inOrder}
 use Rattle.sorting.specs.SortedWords.{Listed, Ordered}
 use Rattle.sorting.proofs.SortedWords.{listed-steps, ordered-steps}
-use Rattle.events.specs.Linking.{LOG, logged}
+use Rattle.events.specs.Linking.{logged}
 use Rattle.judge.specs.Gathering.{Gathered}
 use Rattle.judge.specs.Parts.{Arranged}
 use Rattle.judge.specs.Visiting.{Loaded, Visits}

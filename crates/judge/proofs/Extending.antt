@@ -11,16 +11,15 @@ use lib.Seq.{getD-take, getD-drop}
 use Rattle.model.specs.Schedule.{Step}
 use Rattle.model.specs.Words.{stepOfWord}
 use Rattle.rows.specs.declared.Site.{Site}
-use Rattle.walking.specs.Scratch.{EVENTS, ROWS, STEPS, eventsIn}
-use Rattle.walking.specs.Access.{MOST, OnlyIn}
-use Rattle.walking.specs.Scratch.{countOf, wordsAt}
+use Rattle.scratch.specs.Layout.{EVENTS, ROWS, STEPS, MOST, OnlyIn, LOG}
+use Rattle.scratch.specs.Words.{eventsIn, countOf, wordsAt}
 use Rattle.walking.specs.Walks.{Schedules}
-use Rattle.walking.proofs.Frames.{only-then, only-wider, getD-below}
-use Rattle.walking.proofs.Events.{events-length}
+use Rattle.scratch.proofs.Frames.{only-then, only-wider, getD-below}
+use Rattle.scratch.proofs.Events.{events-length}
 use Rattle.search.specs.declared.explaining.Found.{Found}
 use Rattle.search.specs.Paths.{Kept, Explainable, Scheduled, Explained}
 use Rattle.events.specs.Thinning.{retimed}
-use Rattle.events.specs.Linking.{LOG, placesFrom, placesIn}
+use Rattle.events.specs.Linking.{placesFrom, placesIn}
 use Rattle.events.specs.Retiming.{wordsBetween, Retimable, Retimed}
 use Rattle.judge.proofs.Allowances.{allowance-few}
 

@@ -14,9 +14,8 @@ use Rattle.model.proofs.Expand.{machine-bounds}
 use Rattle.masks.specs.Sets.{OneToSix}
 use Rattle.rows.specs.Sites.{Known, machineOf}
 use Rattle.rows.proofs.Numbered.{machine-of}
-use Rattle.walking.specs.Scratch.{eventIn, eventsFrom, eventsIn}
-use Rattle.walking.specs.Access.{structIn}
-use Rattle.walking.proofs.Events.{meant-read}
+use Rattle.scratch.specs.Words.{eventIn, eventsFrom, eventsIn, structIn}
+use Rattle.scratch.proofs.Events.{meant-read}
 
 module _ (sys : Topology) (few : sys .machines ≤ 6) where
   by : (i : Machine) → T (isMachine sys i) → OneToSix i

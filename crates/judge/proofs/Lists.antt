@@ -5,8 +5,8 @@ use mathlib.Core.Path.{_≡_, sym, ap, _∙_}
 use mathlib.Core.List.{List}
 use lib.ListN.{length, take, drop}
 use lib.Seq.{take-add, drop-at, length-take-le}
-use Rattle.walking.specs.Access.{OnlyIn}
-use Rattle.walking.specs.Scratch.{wordsAt}
+use Rattle.scratch.specs.Layout.{OnlyIn}
+use Rattle.scratch.specs.Words.{wordsAt}
 
 -- The words of a list stay if nothing from its place on has changed.
 pub list-kept : {from place : ℕ} {w w' : List ℕ} → OnlyIn from place w w' → place ≤ length w → (count : ℕ)

@@ -16,7 +16,8 @@ use Rattle.verdict_file.specs.Files.{Verdict, allowed, impossible}
 use Rattle.verdict_file.specs.Writing.{allowedBy, writable, room, output}
 use Rattle.verdict_file.proofs.Writing.{file}
 use Rattle.verdict_file.proofs.Writable.{fits-writable, event-writable}
-use Rattle.walking.specs.Scratch.{SORTED, wordsAt}
+use Rattle.scratch.specs.Layout.{SORTED}
+use Rattle.scratch.specs.Words.{wordsAt}
 use Rattle.events.specs.Linking.{logged}
 use Rattle.judge.specs.Parts.{Arranged}
 use Rattle.judge.specs.Settling.{Sound, Issued, Settled}

@@ -19,17 +19,16 @@ use Rattle.model.proofs.Gaps.{has-run-nil}
 use Rattle.model.proofs.Limits.{within, listed-below}
 use Rattle.rows.specs.declared.Site.{Site}
 use Rattle.rows.specs.Sites.{Describes}
-use Rattle.walking.specs.Scratch.{EVENTS, ROWS, STEPS, eventsFrom, eventsIn}
-use Rattle.walking.specs.Access.{WORDS, OnlyIn}
-use Rattle.walking.specs.Scratch.{wordsAt, stepsAt}
+use Rattle.scratch.specs.Layout.{EVENTS, ROWS, STEPS, WORDS, OnlyIn, LOG}
+use Rattle.scratch.specs.Words.{eventsFrom, eventsIn, wordsAt, stepsAt}
 use Rattle.walking.specs.Walks.{Placed, Schedules}
-use Rattle.walking.proofs.Frames.{only-then, only-wider, getD-below}
-use Rattle.walking.proofs.Events.{events-take, events-length}
+use Rattle.scratch.proofs.Frames.{only-then, only-wider, getD-below}
+use Rattle.scratch.proofs.Events.{events-take, events-length}
 use Rattle.search.specs.declared.explaining.Found.{Found}
 use Rattle.search.specs.Paths.{Explainable, Explained}
 use Rattle.search.proofs.Prefixes.{has-run-at-prefix}
 use Rattle.events.specs.Thinning.{Leads, retimed}
-use Rattle.events.specs.Linking.{LOG, placeIn, placesIn, logged, Linked, Picked}
+use Rattle.events.specs.Linking.{placeIn, placesIn, logged, Linked, Picked}
 use Rattle.events.specs.Retiming.{Retimable, Retimed}
 use Rattle.events.proofs.Retimings.{places-at}
 use Rattle.judge.specs.Gathering.{Gathered}

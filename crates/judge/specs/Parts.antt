@@ -6,7 +6,8 @@ use lib.ListN.{length}
 use Rattle.model.specs.Cxl0.{Topology, Event, Run}
 use Rattle.model.specs.Schedule.{weave}
 use Rattle.verdict_file.specs.Schedules.{scheduleFits}
-use Rattle.walking.specs.Scratch.{SORTED, stepsAt}
+use Rattle.scratch.specs.Layout.{SORTED}
+use Rattle.scratch.specs.Words.{stepsAt}
 
 -- From SORTED on, the area has the words of a schedule that makes a run of the events.
 pub record Arranged (sys : Topology) (es : List Event) (count : ℕ) (w : List ℕ) : Type 0 where

@@ -9,10 +9,9 @@ use Rattle.model.specs.Cxl0.{Location, isLocation, Event, event, allNamed}
 use Rattle.model.specs.OneLocation.{startAt, HasRunAt}
 use Rattle.model.specs.Meaning.{topologyOf, withinLimits}
 use Rattle.model.specs.declared.Topology as topology
-use Rattle.walking.specs.Scratch.{STEPS}
-use Rattle.walking.specs.Access.{OnlyIn}
-use Rattle.walking.specs.Scratch.{wordsAt, stepsAt}
-use Rattle.events.specs.Linking.{LOG, logged, Linked}
+use Rattle.scratch.specs.Layout.{STEPS, OnlyIn, LOG}
+use Rattle.scratch.specs.Words.{wordsAt, stepsAt}
+use Rattle.events.specs.Linking.{logged, Linked}
 use Rattle.judge.specs.Gathering.{Gathered}
 use Rattle.judge.specs.declared.visiting.Progress.{Progress}
 

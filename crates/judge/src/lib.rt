@@ -12,6 +12,7 @@ use fields::Refusal;
 use log::Head;
 use reader::Reading;
 use reader::read;
+use scratch::WORDS;
 use settling::settle;
 use verdict_file::filling::has_room;
 ghost use mathlib.Core.Path.{_≡_};
@@ -20,9 +21,6 @@ ghost use Rattle.log.specs.Records.{Records};
 ghost use Rattle.log.specs.Reading.{accepted, readLog};
 ghost use Rattle.log.specs.Answers.{headOf};
 ghost use Rattle.judge.specs.Judging.{areasFit, outcomeOf, JudgesLog, Judges};
-
-// The fewest words of the scratch area.
-const WORDS: usize = 4096;
 
 // Allowed, with the step count and the length of the file; impossible, with the number of the first impossible
 // event and the length; or a refusal.

@@ -2,11 +2,11 @@
 use crate::Judged;
 use crate::visiting::visit_all;
 use model::Topology;
+use scratch::SORTED;
 use sorting::order;
 use verdict_file::Written;
 use verdict_file::write_allowed;
 use verdict_file::write_impossible;
-use walking::scratch::SORTED;
 ghost use mathlib.Core.Path.{_≡_};
 ghost use mathlib.Core.Bool.{true};
 ghost use lib.ListN.{length};

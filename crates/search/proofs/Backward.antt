@@ -14,11 +14,11 @@ use Rattle.rows.specs.Rows.{lastRow}
 use Rattle.rows.specs.Sites.{copyAfter}
 use Rattle.rows.specs.Steps.{Stepped}
 use Rattle.rows.proofs.Rows.{last-right, last-closed}
-use Rattle.walking.specs.Scratch.{ROWS, STEPS, eventIn, eventsIn, rowIn, copyIn}
-use Rattle.walking.specs.Access.{MOST, RowPut}
+use Rattle.scratch.specs.Layout.{ROWS, STEPS, MOST}
+use Rattle.scratch.specs.Words.{eventIn, eventsIn, rowIn, copyIn, RowPut}
 use Rattle.walking.specs.Passes.{Copies, Answers, Ready, Steppable, OnlyRows}
-use Rattle.walking.proofs.Frames.{only-none, only-then, only-wider, getD-below, getD-above}
-use Rattle.walking.proofs.Events.{struct-same, event-same, events-drop, events-drop-all, copies-suc}
+use Rattle.scratch.proofs.Frames.{only-none, only-then, only-wider, getD-below, getD-above}
+use Rattle.scratch.proofs.Events.{struct-same, event-same, events-drop, events-drop-all, copies-suc}
 
 -- ---- what a row leaves as it was
 

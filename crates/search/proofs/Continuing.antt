@@ -17,26 +17,25 @@ use Rattle.rows.specs.declared.Site.{Site}
 use Rattle.rows.specs.Rows.{state}
 use Rattle.rows.specs.Sites.{Known, Describes, machineOf, copyAfter, copyFrom}
 use Rattle.rows.proofs.RowSteps.{next-fits}
-use Rattle.walking.specs.declared.Place.{Place}
-use Rattle.walking.specs.Scratch.{ROWS, STEPS, PLACES, PLACES-END}
-use Rattle.walking.specs.Scratch.{eventIn, eventsFrom, eventsIn, copyIn, placeIn}
-use Rattle.walking.specs.Access.{MOST, OnlyIn, structIn, CopyPut, PlacePut}
+use Rattle.scratch.specs.declared.Waypoint.{Waypoint}
+use Rattle.scratch.specs.Layout.{ROWS, STEPS, WAYPOINTS, LOG, MOST, OnlyIn}
+use Rattle.scratch.specs.Words.{eventIn, eventsFrom, eventsIn, copyIn, waypointIn, structIn, CopyPut, WaypointPut}
 use Rattle.walking.specs.Passes.{Copies, Ready}
 use Rattle.walking.specs.Places.{codeAfter, placeAfter}
 use Rattle.walking.specs.Trails.{RunsTo}
-use Rattle.walking.proofs.Frames.{only-then, only-wider, getD-below}
-use Rattle.walking.proofs.Events.{events-suc, events-length, copies-suc, struct-same, event-same, events-same}
-use Rattle.walking.proofs.Events.{known-machine}
+use Rattle.scratch.proofs.Frames.{only-then, only-wider, getD-below}
+use Rattle.scratch.proofs.Events.{events-suc, events-length, copies-suc}
+use Rattle.scratch.proofs.Events.{struct-same, event-same, events-same, known-machine}
 use Rattle.walking.proofs.Trails.{runsTo-none, runsTo-cons}
 use Rattle.walking.proofs.Turns.{next-state, elsewhere-runs}
 use Rattle.search.specs.declared.explaining.Onward.{Onward}
 use Rattle.search.specs.Paths.{Led, Path, more, Based, Kept, Retraceable, Retraced}
 use Rattle.search.specs.Paths.{Resumable, Resumed, Stuck, Continuable, Onwards}
 use Rattle.search.proofs.Keeping.{kept-then, kept-rows, kept-steps}
-use Rattle.search.proofs.Retracing.{place-same}
+use Rattle.search.proofs.Retracing.{waypoint-same}
 use Rattle.search.proofs.Ready.{ready-kept}
 use Rattle.search.proofs.Schedules.{leading-more}
-use Rattle.search.proofs.Paths.{path-led, path-back, path-first, path-rows, path-place}
+use Rattle.search.proofs.Paths.{path-led, path-back, path-first, path-rows, path-waypoint}
 
 -- ---- what stays
 
@@ -55,40 +54,40 @@ copies-same x {to = to} only low few copies d l =
 
 -- ---- going back
 
--- The walk stood at the place before each event up to t.
-path-to : {s : Site} {base t : ℕ} {p : Place} {w : List ℕ} → Path s base w t p → placeIn w t ≡ p
-    → (d : ℕ) → d ≤ t → Path s base w d (placeIn w d)
-path-to {s} {base} {t} {p} {w} path place d h =
+-- The walk stood at the waypoint before each event up to t.
+path-to : {s : Site} {base t : ℕ} {p : Waypoint} {w : List ℕ} → Path s base w t p → waypointIn w t ≡ p
+    → (d : ℕ) → d ≤ t → Path s base w d (waypointIn w d)
+path-to {s} {base} {t} {p} {w} path waypoint d h =
     ⊎-elim
-    (λ e. subst (λ (k : ℕ). Path s base w k (placeIn w k)) (sym e) (rw place path))
+    (λ e. subst (λ (k : ℕ). Path s base w k (waypointIn w k)) (sym e) (rw waypoint path))
     (λ l. path-back path d l .0)
     (eq-or-lt-of-le h)
 
-module _ {s : Site} {t : ℕ} {p : Place} {w : List ℕ} (stuck : Stuck s t p w) where
+module _ {s : Site} {t : ℕ} {p : Waypoint} {w : List ℕ} (stuck : Stuck s t p w) where
   -- There is room for event t.
   few : suc t ≤ MOST
   few = stuck .ready .few
 
-  -- There is a place before each event up to t.
+  -- There is a waypoint before each event up to t.
   pub retraceable : Retraceable s (t + 1) w
   retraceable =
       rw (add-one t)
       (record {
         some = omega arith;
         ready = stuck .ready;
-        fits = λ d h. path-led (path-to (stuck .based .path) (stuck .place) d (omega arith)) .fits;
+        fits = λ d h. path-led (path-to (stuck .based .path) (stuck .waypoint) d (omega arith)) .fits;
       })
 
-  -- The first place has the state of the start.
+  -- The first waypoint has the state of the start.
   first-state : (sys : Topology) → Describes sys s
-      → state (placeIn w 0 .code) (copyIn w 0) (placeIn w 0 .memory) ≡ startAt sys (s .location .0)
+      → state (waypointIn w 0 .code) (copyIn w 0) (waypointIn w 0 .memory) ≡ startAt sys (s .location .0)
   unfolding startAt eventsFrom copyFrom
   first-state sys d =
-      let first = path-first (stuck .based .path) (stuck .place) in
+      let first = path-first (stuck .based .path) (stuck .waypoint) in
       λ i. record {
         code = first i .code;
         copy = stuck .ready .copies 0 zero-le i;
-        memory = (ap (λ (q : Place). q .memory) first ∙ sym (d .begins)) i;
+        memory = (ap (λ (q : Waypoint). q .memory) first ∙ sym (d .begins)) i;
       }
 
   module _ {r : ℕ} {w' : List ℕ} (back : Retraced s (t + 1) w r w') where
@@ -96,15 +95,15 @@ module _ {s : Site} {t : ℕ} {p : Place} {w : List ℕ} (stuck : Stuck s t p w)
     ready-rows : Ready s (suc t) w'
     ready-rows = ready-kept (stuck .ready) (back .frame)
 
-    -- The path to the place before event r is there as before.
-    based-rows : {base : ℕ} → Based s base w t p → r ≤ t → Based s base w' r (placeIn w' r)
+    -- The path to the waypoint before event r is there as before.
+    based-rows : {base : ℕ} → Based s base w t p → r ≤ t → Based s base w' r (waypointIn w' r)
     based-rows b h =
-        let there = path-to (b .path) (stuck .place) r h in
+        let there = path-to (b .path) (stuck .waypoint) r h in
         let path = path-rows (back .frame .frame) (omega (arith, few)) (b .low) there in
-        record { low = b .low; high = b .high; path = rw (place-same (back .frame .frame) r) path }
+        record { low = b .low; high = b .high; path = rw (waypoint-same (back .frame .frame) r) path }
 
-    -- That place ends no earlier than the path begins.
-    base-below : {base : ℕ} → Based s base w t p → r ≤ t → base ≤ placeIn w' r .end
+    -- That waypoint ends no earlier than the path begins.
+    base-below : {base : ℕ} → Based s base w t p → r ≤ t → base ≤ waypointIn w' r .end
     base-below b h = omega (arith, path-led (based-rows b h .path) .here)
 
     -- The walk can go on from there.
@@ -120,26 +119,26 @@ module _ {s : Site} {t : ℕ} {p : Place} {w : List ℕ} (stuck : Stuck s t p w)
           based = based-rows (stuck .based) (omega arith);
           system = stuck .system;
           describes = stuck .describes;
-          runs = rw (events, place-same frame r, back .frame .copies r)
+          runs = rw (events, waypoint-same frame r, back .frame .copies r)
               (back .runs h (stuck .system) (stuck .describes));
         }
 
     -- The walk has gone back and on again.
-    pub went-back : r < t + 1 → {q : Place} {w'' : List ℕ} → Resumed s r (t + 1) w' q w''
-        → Onwards s t p w (record { found = true; place = q }) w''
+    pub went-back : r < t + 1 → {q : Waypoint} {w'' : List ℕ} → Resumed s r (t + 1) w' q w''
+        → Onwards s t p w (record { found = true; waypoint = q }) w''
     went-back h resumed =
         let back-to : r ≤ t = omega arith in
         record {
           kept = λ base b. kept-then (kept-rows (b .low) (back .frame .frame))
-              (kept-steps (b .low) (only-wider (resumed .frame) (base-below b back-to) (le-refl PLACES-END)));
+              (kept-steps (b .low) (only-wider (resumed .frame) (base-below b back-to) (le-refl LOG)));
           copies = copies-same (s .location .0) (resumed .frame)
               (le-trans (stuck .based .low) (base-below (stuck .based) back-to)) few (ready-rows .copies);
           goes = λ e base b. rw (add-one t) at (resumed .path base (based-rows b back-to));
           ends = λ e. absurd (true≢false e);
         }
 
-    -- From no place can the walk go on.
-    pub went-nowhere : t + 1 ≤ r → Onwards s t p w (record { found = false; place = p }) w'
+    -- From no waypoint can the walk go on.
+    pub went-nowhere : t + 1 ≤ r → Onwards s t p w (record { found = false; waypoint = p }) w'
     went-nowhere h =
         record {
           kept = λ base b. kept-rows (b .low) (back .frame .frame);
@@ -151,7 +150,7 @@ module _ {s : Site} {t : ℕ} {p : Place} {w : List ℕ} (stuck : Stuck s t p w)
 -- ---- going on
 
 -- The event leads from p to q with no silent step.
-led-more : {s : Site} {base t : ℕ} {p q : Place} {w : List ℕ} → Led s base w t p
+led-more : {s : Site} {base t : ℕ} {p q : Waypoint} {w : List ℕ} → Led s base w t p
     → q .end ≡ p .end → q .code < 64
     → ((sys : Topology) → Describes sys s → RunsTo sys (s .location .0) (event (eventIn w t) ∷ [])
     (state (p .code) (copyFrom (s .location .0) 0 (eventsIn w t)) (p .memory))
@@ -169,26 +168,26 @@ led-more {s} {t = t} {w = w} led end fits runs =
       fits = fits;
     }
 
--- The place before event t and the copies after it are put.
-pub record Begun (s : Site) (t : ℕ) (p : Place) (w w' : List ℕ) : Type 0 where
-  pub frame : OnlyIn ROWS PLACES-END w w'
+-- The waypoint before event t and the copies after it are put.
+pub record Begun (s : Site) (t : ℕ) (p : Waypoint) (w w' : List ℕ) : Type 0 where
+  pub frame : OnlyIn ROWS LOG w w'
   pub kept : (base : ℕ) → Based s base w t p → Kept base w w'
   pub based : (base : ℕ) → Based s base w t p → Based s base w' t p
   pub stuck : Stuck s t p w'
   pub copy : copyIn w' t ≡ copyIn w t
 
--- The list of steps ends before the places.
-pub continuable-end : {s : Site} {t : ℕ} {p : Place} {w : List ℕ} → Continuable s t p w → p .end ≤ PLACES
+-- The list of steps ends before the waypoints.
+pub continuable-end : {s : Site} {t : ℕ} {p : Waypoint} {w : List ℕ} → Continuable s t p w → p .end ≤ WAYPOINTS
 continuable-end go =
     let led = path-led (go .based .path) in
     omega (arith, led .here, led .few, go .few, go .based .high)
 
 -- The walk stands at a code of six machines.
-pub continuable-fits : {s : Site} {t : ℕ} {p : Place} {w : List ℕ} → Continuable s t p w → p .code < 64
+pub continuable-fits : {s : Site} {t : ℕ} {p : Waypoint} {w : List ℕ} → Continuable s t p w → p .code < 64
 continuable-fits go = path-led (go .based .path) .fits
 
-module _ {s : Site} {t : ℕ} {p : Place} {w w' w'' : List ℕ} {v : Value} (go : Continuable s t p w)
-    (put : PlacePut w t p w') (copy : CopyPut w' (t + 1) v w'') where
+module _ {s : Site} {t : ℕ} {p : Waypoint} {w w' w'' : List ℕ} {v : Value} (go : Continuable s t p w)
+    (put : WaypointPut w t p w') (copy : CopyPut w' (t + 1) v w'') where
   -- There is room for event t.
   few-events : t < MOST
   few-events = go .few
@@ -197,8 +196,8 @@ module _ {s : Site} {t : ℕ} {p : Place} {w w' w'' : List ℕ} {v : Value} (go 
   rows-put : OnlyIn ROWS STEPS w' w''
   rows-put = only-wider (copy .frame) (omega arith) (omega (arith, few-events))
 
-  -- The events and what follows the places stay.
-  frame-put : OnlyIn ROWS PLACES-END w w''
+  -- The events and what follows the waypoints stay.
+  frame-put : OnlyIn ROWS LOG w w''
   frame-put =
       only-then (only-wider (put .frame) (omega arith) (omega (arith, few-events)))
       (only-wider rows-put (omega arith) (omega arith))
@@ -206,7 +205,7 @@ module _ {s : Site} {t : ℕ} {p : Place} {w w' w'' : List ℕ} {v : Value} (go 
   -- The path stays.
   based-put : (base : ℕ) → Based s base w t p → Based s base w'' t p
   based-put base b =
-      let placed = path-place put (omega (arith, few-events)) (continuable-end go) (b .low) (b .path) in
+      let placed = path-waypoint put (omega (arith, few-events)) (continuable-end go) (b .low) (b .path) in
       record {
         low = b .low;
         high = b .high;
@@ -247,7 +246,7 @@ module _ {s : Site} {t : ℕ} {p : Place} {w w' w'' : List ℕ} {v : Value} (go 
             known = known-put;
             copies = copies-put;
           };
-          place = place-same rows-put t ∙ put .stored;
+          waypoint = waypoint-same rows-put t ∙ put .stored;
           base = go .base;
           based = based-put (go .base) (go .based);
           system = go .system;
@@ -275,19 +274,19 @@ module _ {s : Site} {t : ℕ} {p : Place} {w w' w'' : List ℕ} {v : Value} (go 
           (λ h. copy-put d (omega arith) ∙ go .ready .copies d (omega arith))
           (eq-or-lt-of-le l))
 
-module _ {s : Site} {t : ℕ} {p : Place} {w w' : List ℕ} (go : Continuable s t p w)
+module _ {s : Site} {t : ℕ} {p : Waypoint} {w w' : List ℕ} (go : Continuable s t p w)
     (begun : Begun s t p w w') where
   -- Event t is as it was.
   same : eventIn w' t ≡ eventIn w t
   same = event-same (begun .frame) t (go .few)
 
-  -- What the event makes of the place, with no silent step.
-  went-on : {q : Place} → q .end ≡ p .end → q .code < 64
+  -- What the event makes of the waypoint, with no silent step.
+  went-on : {q : Waypoint} → q .end ≡ p .end → q .code < 64
       → ((sys : Topology) → Describes sys s → (u : Value) → u ≡ copyIn w t
       → RunsTo sys (s .location .0) (event (eventIn w t) ∷ [])
       (state (p .code) u (p .memory))
       (state (q .code) (copyAfter (s .location .0) u (eventIn w t)) (q .memory)))
-      → Onwards s t p w (record { found = true; place = q }) w'
+      → Onwards s t p w (record { found = true; waypoint = q }) w'
   went-on {q} end fits runs =
       let u = copyFrom (s .location .0) 0 (eventsIn w' t) in
       let copies = begun .stuck .ready .copies in
@@ -298,7 +297,7 @@ module _ {s : Site} {t : ℕ} {p : Place} {w w' : List ℕ} (go : Continuable s 
         copies = copies;
         goes = λ e base b.
             let path = begun .based base b .path in
-            more {q = q} path (begun .stuck .place) no-less
+            more {q = q} path (begun .stuck .waypoint) no-less
             (led-more (path-led path) end fits
             (λ sys d. rw (copies-suc w' (s .location .0) t, same) (runs sys d u same-copy)));
         ends = λ e. absurd (true≢false e);
@@ -308,7 +307,7 @@ module _ {s : Site} {t : ℕ} {p : Place} {w w' : List ℕ} (go : Continuable s 
   module _ {e : Event} (read : e ≡ eventIn w t) where
     -- It does not concern the site.
     pub went-elsewhere : T (not (eventAt (s .location .0) e))
-        → Onwards s t p w (record { found = true; place = p }) w'
+        → Onwards s t p w (record { found = true; waypoint = p }) w'
     went-elsewhere away =
         went-on refl (continuable-fits go)
         (λ sys d u same. rw (← read) (elsewhere-runs sys s e away (p .code) u (p .memory)))
@@ -329,7 +328,7 @@ module _ {s : Site} {t : ℕ} {p : Place} {w w' : List ℕ} (go : Continuable s 
           (next-fits sys x own e machine (state (p .code) u (p .memory)) (continuable-fits go))
 
       -- The walk stands where the event leads.
-      pub went-ahead : Onwards s t p w (record { found = true; place = placeAfter s e p }) w'
+      pub went-ahead : Onwards s t p w (record { found = true; waypoint = placeAfter s e p }) w'
       went-ahead =
           let x = s .location .0 in
           went-on refl fits-next

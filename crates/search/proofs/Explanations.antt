@@ -13,11 +13,11 @@ use Rattle.model.proofs.Weaving.{events-weave, silents-weave}
 use Rattle.rows.specs.declared.Site.{Site}
 use Rattle.rows.specs.Rows.{state}
 use Rattle.rows.specs.Sites.{Describes, copyFrom}
-use Rattle.walking.specs.declared.Place.{Place}
-use Rattle.walking.specs.Scratch.{ROWS, STEPS, eventsFrom, eventsIn, copyIn}
-use Rattle.walking.specs.Access.{MOST, OnlyIn, CopyPut}
+use Rattle.scratch.specs.declared.Waypoint.{Waypoint}
+use Rattle.scratch.specs.Layout.{ROWS, STEPS, MOST, OnlyIn}
+use Rattle.scratch.specs.Words.{eventsFrom, eventsIn, copyIn, CopyPut}
 use Rattle.walking.specs.Passes.{Copies, Fits}
-use Rattle.walking.proofs.Frames.{only-wider}
+use Rattle.scratch.proofs.Frames.{only-wider}
 use Rattle.search.specs.declared.explaining.Onward.{Onward}
 use Rattle.search.specs.Paths.{Leading, Path, start, Based, Kept, Continuable, Onwards}
 use Rattle.search.specs.Paths.{Explainable, Explained}
@@ -40,7 +40,7 @@ leading-fits {s} {es} {ps} l sys d = (
 -- ---- event by event
 
 -- After t events the walk stands at p, and there are the copies up to event t.
-pub record Explaining (s : Site) (count : ℕ) (w : List ℕ) (t : ℕ) (p : Place) (w' : List ℕ) : Type 0 where
+pub record Explaining (s : Site) (count : ℕ) (w : List ℕ) (t : ℕ) (p : Waypoint) (w' : List ℕ) : Type 0 where
   pub kept : Kept (STEPS + count) w w'
   pub copies : Copies (s .location .0) t w'
   pub path : Path s (STEPS + count) w' t p
@@ -60,7 +60,7 @@ module _ (s : Site) (count : ℕ) {w w₁ : List ℕ} (put : CopyPut w 0 0 w₁)
       }
 
   -- What holds with what has changed since, holds with what has changed since before that.
-  pub explaining-since : {t : ℕ} {p : Place} {w' : List ℕ} → Explaining s count w₁ t p w'
+  pub explaining-since : {t : ℕ} {p : Waypoint} {w' : List ℕ} → Explaining s count w₁ t p w'
       → Explaining s count w t p w'
   explaining-since e =
       let only : OnlyIn ROWS STEPS w w₁ = only-wider (put .frame) (omega arith) (omega arith) in
@@ -68,7 +68,7 @@ module _ (s : Site) (count : ℕ) {w w₁ : List ℕ} (put : CopyPut w 0 0 w₁)
       record { kept = kept-then first (e .kept); copies = e .copies; path = e .path }
 
 -- After t events.
-module _ {s : Site} {count t : ℕ} {w w' : List ℕ} {p : Place} (e : Explaining s count w t p w') where
+module _ {s : Site} {count t : ℕ} {w w' : List ℕ} {p : Waypoint} (e : Explaining s count w t p w') where
   -- The steps end no earlier than the list begins.
   pub explaining-end : STEPS ≤ p .end
   explaining-end = omega (arith, path-led (e .path) .here)
@@ -83,7 +83,7 @@ module _ {s : Site} {count t : ℕ} {w w' : List ℕ} {p : Place} (e : Explainin
 
   -- The walk goes on over event t.
   pub explaining-more : {r : Onward} {w'' : List ℕ} → count ≤ 256 → Onwards s t p w' r w'' → r .found ≡ true
-      → Explaining s count w (suc t) (r .place) w''
+      → Explaining s count w (suc t) (r .waypoint) w''
   explaining-more short on found =
       record {
         kept = kept-on short on;
@@ -93,7 +93,7 @@ module _ {s : Site} {count t : ℕ} {w w' : List ℕ} {p : Place} (e : Explainin
 
 module _ (s : Site) (k count : ℕ) (w : List ℕ) (can : Explainable s k count w) where
   -- After t events.
-  module _ {t : ℕ} {p : Place} {w' : List ℕ} (e : Explaining s count w t p w') where
+  module _ {t : ℕ} {p : Waypoint} {w' : List ℕ} (e : Explaining s count w t p w') where
     -- They have a run.
     fits : t ≤ k → (sys : Topology) → Describes sys s → Fits sys s t w
     fits h sys d =
@@ -140,7 +140,7 @@ module _ (s : Site) (k count : ℕ) (w : List ℕ) (can : Explainable s k count 
         }
 
   -- After the last event.
-  pub explaining-all : {p : Place} {w' : List ℕ} → Explaining s count w k p w'
+  pub explaining-all : {p : Waypoint} {w' : List ℕ} → Explaining s count w k p w'
       → Explained s k count w (record { events = k; steps = p .end - STEPS }) w'
   explaining-all {p} {w'} e =
       let led = path-led (e .path) in

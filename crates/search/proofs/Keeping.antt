@@ -1,15 +1,15 @@
--- What the walk keeps: the events, the list of steps before its own, and what follows the places.
+-- What the walk keeps: the events, the list of steps before its own, and what follows the waypoints.
 use Prim.Native.Nat.{ℕ, _+_, _-_, _≤_, _<_}
 use native.Mathlib.Nat.{le-refl}
 use native.Mathlib.Omega.{arith}
 use mathlib.Core.Path.{_≡_, refl, sym, ap, _∙_}
 use mathlib.Core.List.{List}
 use lib.ListN.{take, drop}
-use Rattle.walking.specs.Scratch.{ROWS, STEPS, PLACES-END, eventsIn}
-use Rattle.walking.specs.Access.{MOST, OnlyIn, structIn}
-use Rattle.walking.proofs.Frames.{only-wider}
-use Rattle.walking.proofs.Events.{struct-same, events-same}
-use Rattle.walking.proofs.Segments.{words-from}
+use Rattle.scratch.specs.Layout.{ROWS, STEPS, LOG, MOST, OnlyIn}
+use Rattle.scratch.specs.Words.{eventsIn, structIn}
+use Rattle.scratch.proofs.Frames.{only-wider}
+use Rattle.scratch.proofs.Events.{struct-same, events-same}
+use Rattle.scratch.proofs.Segments.{words-from}
 use Rattle.search.specs.Paths.{Kept}
 
 -- Nothing has changed.
@@ -38,22 +38,22 @@ module _ {base : ℕ} {w w' : List ℕ} (low : STEPS ≤ base) where
         sized = only .sized;
         events = only .below;
         list = rw end at words;
-        above = only-wider {to' = PLACES-END} only (le-refl ROWS) (omega arith) .above;
+        above = only-wider {to' = LOG} only (le-refl ROWS) (omega arith) .above;
       }
 
-  -- Where steps from the path's first on and places change.
-  pub kept-steps : OnlyIn base PLACES-END w w' → Kept base w w'
+  -- Where steps from the path's first on and waypoints change.
+  pub kept-steps : OnlyIn base LOG w w' → Kept base w w'
   kept-steps only =
       record {
         sized = only .sized;
-        events = only-wider {from' = ROWS} only (omega arith) (le-refl PLACES-END) .below;
+        events = only-wider {from' = ROWS} only (omega arith) (le-refl LOG) .below;
         list = ap (drop STEPS) (only .below);
         above = only .above;
       }
 
--- The events are as they were, since nothing has changed but what is between them and the end of the places.
+-- The events are as they were, since nothing has changed but what is between them and the end of the waypoints.
 module _ {base : ℕ} {w w' : List ℕ} (kept : Kept base w w') where
-  between : OnlyIn ROWS PLACES-END w w'
+  between : OnlyIn ROWS LOG w w'
   between = record { sized = kept .sized; below = kept .events; above = kept .above }
 
   pub struct-kept : (j : ℕ) → j < MOST → structIn w' j ≡ structIn w j

@@ -13,24 +13,23 @@ use Rattle.model.specs.Words.{stepOfWord}
 use Rattle.rows.specs.declared.Site.{Site}
 use Rattle.rows.specs.Rows.{state}
 use Rattle.rows.specs.Sites.{Describes, copyFrom}
-use Rattle.walking.specs.declared.Place.{Place}
-use Rattle.walking.specs.Scratch.{ROWS, STEPS, PLACES, eventIn, eventsFrom, eventsIn, copyIn, placeIn}
-use Rattle.walking.specs.Access.{WORDS, MOST, OnlyIn, PlacePut}
-use Rattle.walking.specs.Scratch.{wordsAt}
+use Rattle.scratch.specs.declared.Waypoint.{Waypoint}
+use Rattle.scratch.specs.Layout.{ROWS, STEPS, WAYPOINTS, WORDS, MOST, OnlyIn}
+use Rattle.scratch.specs.Words.{eventIn, eventsFrom, eventsIn, copyIn, waypointIn, WaypointPut, wordsAt}
 use Rattle.walking.specs.Trails.{stepAt, wordOf, RunsTo}
 use Rattle.walking.specs.Walks.{Turned}
-use Rattle.walking.proofs.Frames.{only-wider, getD-below, getD-above}
-use Rattle.walking.proofs.Events.{events-same, events-suc, events-length, copies-suc}
-use Rattle.walking.proofs.Segments.{words-from, words-two, words-kept, words-after}
-use Rattle.walking.proofs.Stored.{stored-only, stored-words}
-use Rattle.walking.proofs.StepArea.{event-kept, events-kept}
+use Rattle.scratch.proofs.Frames.{only-wider, getD-below, getD-above}
+use Rattle.scratch.proofs.Events.{events-same, events-suc, events-length, copies-suc}
+use Rattle.scratch.proofs.Segments.{words-from, words-two, words-kept, words-after}
+use Rattle.scratch.proofs.Stored.{stored-only, stored-words}
+use Rattle.scratch.proofs.StepArea.{event-kept, events-kept}
 use Rattle.walking.proofs.StepWords.{word-steps}
 use Rattle.search.specs.Paths.{Led, Path, start, more}
 use Rattle.search.proofs.Schedules.{leading-none, leading-more}
 
 module _ {s : Site} {base : ℕ} {w : List ℕ} where
   -- A schedule leads to where the walk stands.
-  pub path-led : {t : ℕ} {p : Place} → Path s base w t p → Led s base w t p
+  pub path-led : {t : ℕ} {p : Waypoint} → Path s base w t p → Led s base w t p
   unfolding eventsFrom copyFrom
   path-led start =
       record {
@@ -43,35 +42,35 @@ module _ {s : Site} {base : ℕ} {w : List ℕ} where
       }
   path-led (more path here far led) = led
 
-  -- The walk stood at each of the places before, where the steps end no later.
-  pub path-back : {t : ℕ} {p : Place} → Path s base w t p → (d : ℕ) → d < t
-      → Path s base w d (placeIn w d) × (placeIn w d .end ≤ p .end)
+  -- The walk stood at each of the waypoints before, where the steps end no later.
+  pub path-back : {t : ℕ} {p : Waypoint} → Path s base w t p → (d : ℕ) → d < t
+      → Path s base w d (waypointIn w d) × (waypointIn w d .end ≤ p .end)
   path-back start d h = absurd (omega arith)
   path-back (more {t} {p} {q} path here far led) d h =
       ⊎-elim
-      (λ e. subst (λ (k : ℕ). Path s base w k (placeIn w k) × (placeIn w k .end ≤ q .end)) (sym e)
-      (subst (λ (r : Place). Path s base w t r × (r .end ≤ q .end)) (sym here) (path, far)))
+      (λ e. subst (λ (k : ℕ). Path s base w k (waypointIn w k) × (waypointIn w k .end ≤ q .end)) (sym e)
+      (subst (λ (r : Waypoint). Path s base w t r × (r .end ≤ q .end)) (sym here) (path, far)))
       (λ b. (path-back path d b .0, le-trans (path-back path d b .1) far))
       (eq-or-lt-of-le (le-of-suc-le-suc h))
 
-  -- The first place is that at the start.
-  pub path-first : {t : ℕ} {p : Place} → Path s base w t p → placeIn w t ≡ p
-      → placeIn w 0 ≡ record { code = 0; memory = s .initial; end = base }
+  -- The first waypoint is that at the start.
+  pub path-first : {t : ℕ} {p : Waypoint} → Path s base w t p → waypointIn w t ≡ p
+      → waypointIn w 0 ≡ record { code = 0; memory = s .initial; end = base }
   path-first start e = e
   path-first (more path here far led) e = path-first path here
 
-  -- The path stays if the events, its places and its steps do.
-  pub path-kept : {w' : List ℕ} {t : ℕ} {p : Place} → Path s base w t p
+  -- The path stays if the events, its waypoints and its steps do.
+  pub path-kept : {w' : List ℕ} {t : ℕ} {p : Waypoint} → Path s base w t p
       → ((d : ℕ) → d ≤ t → eventsIn w' d ≡ eventsIn w d)
-      → ((d : ℕ) → d < t → placeIn w' d ≡ placeIn w d)
+      → ((d : ℕ) → d < t → waypointIn w' d ≡ waypointIn w d)
       → ((n : ℕ) → base + n ≤ p .end → wordsAt base n w' ≡ wordsAt base n w)
       → Path s base w' t p
-  path-kept start events places words = start
-  path-kept (more {t} {p} {q} path here far led) events places words =
+  path-kept start events waypoints words = start
+  path-kept (more {t} {p} {q} path here far led) events waypoints words =
       more {q = q}
-      (path-kept path (λ d h. events d (omega arith)) (λ d h. places d (omega arith))
+      (path-kept path (λ d h. events d (omega arith)) (λ d h. waypoints d (omega arith))
       (λ n h. words n (le-trans h far)))
-      (places t (omega arith) ∙ here)
+      (waypoints t (omega arith) ∙ here)
       far
       (record {
         words = led .words;
@@ -83,52 +82,52 @@ module _ {s : Site} {base : ℕ} {w : List ℕ} where
       })
 
   -- The steps do not end before they begin.
-  pub path-end : {t : ℕ} {p : Place} → Path s base w t p → base ≤ p .end
+  pub path-end : {t : ℕ} {p : Waypoint} → Path s base w t p → base ≤ p .end
   path-end path = omega (arith, path-led path .here)
 
 -- Places stay if their words do.
-pub place-kept : (w w' : List ℕ) (d : ℕ) → getD w' (PLACES + d) 0 ≡ getD w (PLACES + d) 0
-    → placeIn w' d ≡ placeIn w d
-unfolding placeIn
-place-kept w w' d e = simp e
+pub waypoint-kept : (w w' : List ℕ) (d : ℕ) → getD w' (WAYPOINTS + d) 0 ≡ getD w (WAYPOINTS + d) 0
+    → waypointIn w' d ≡ waypointIn w d
+unfolding waypointIn
+waypoint-kept w w' d e = simp e
 
 -- The path stays where rows and copies change.
-pub path-rows : {s : Site} {base : ℕ} {w w' : List ℕ} {t : ℕ} {p : Place} → OnlyIn ROWS STEPS w w' → t ≤ MOST
+pub path-rows : {s : Site} {base : ℕ} {w w' : List ℕ} {t : ℕ} {p : Waypoint} → OnlyIn ROWS STEPS w w' → t ≤ MOST
     → STEPS ≤ base → Path s base w t p → Path s base w' t p
 path-rows {base = base} {w} {w'} only few low path =
     path-kept path
     (λ d h. events-same only d (le-trans h few))
-    (λ d h. place-kept w w' d (getD-above only (PLACES + d) (omega arith)))
+    (λ d h. waypoint-kept w w' d (getD-above only (WAYPOINTS + d) (omega arith)))
     (λ n h. words-after only base n low)
 
 -- It stays where words are stored behind its end.
-pub path-steps : {s : Site} {base : ℕ} {w w' : List ℕ} {t : ℕ} {p : Place} → OnlyIn (p .end) PLACES w w'
+pub path-steps : {s : Site} {base : ℕ} {w w' : List ℕ} {t : ℕ} {p : Waypoint} → OnlyIn (p .end) WAYPOINTS w w'
     → t ≤ MOST → STEPS ≤ base → Path s base w t p → Path s base w' t p
 path-steps {base = base} {w} {w'} only few low path =
     path-kept path
-    (λ d h. events-same (only-wider only (omega (arith, path-end path)) (le-refl PLACES)) d (le-trans h few))
-    (λ d h. place-kept w w' d (getD-above only (PLACES + d) (omega arith)))
+    (λ d h. events-same (only-wider only (omega (arith, path-end path)) (le-refl WAYPOINTS)) d (le-trans h few))
+    (λ d h. waypoint-kept w w' d (getD-above only (WAYPOINTS + d) (omega arith)))
     (λ n h. words-kept only base n h)
 
--- It stays where a place is put after those before its events.
-pub path-place : {s : Site} {base : ℕ} {w w' : List ℕ} {t : ℕ} {p q : Place} → PlacePut w t q w' → t ≤ MOST
-    → p .end ≤ PLACES → STEPS ≤ base → Path s base w t p → Path s base w' t p
-path-place {base = base} {w} {w'} {t} put few far low path =
+-- It stays where a waypoint is put after those before its events.
+pub path-waypoint : {s : Site} {base : ℕ} {w w' : List ℕ} {t : ℕ} {p q : Waypoint} → WaypointPut w t q w' → t ≤ MOST
+    → p .end ≤ WAYPOINTS → STEPS ≤ base → Path s base w t p → Path s base w' t p
+path-waypoint {base = base} {w} {w'} {t} put few far low path =
     path-kept path
-    (λ d h. events-same (only-wider (put .frame) (omega arith) (le-refl (PLACES + t + 1))) d (le-trans h few))
-    (λ d h. place-kept w w' d (getD-below (put .frame) (PLACES + d) (omega arith)))
+    (λ d h. events-same (only-wider (put .frame) (omega arith) (le-refl (WAYPOINTS + t + 1))) d (le-trans h few))
+    (λ d h. waypoint-kept w w' d (getD-below (put .frame) (WAYPOINTS + d) (omega arith)))
     (λ n h. words-kept (put .frame) base n (omega arith))
 
 -- ---- one event more
 
 -- A turn leads from p over event t to q.
-module _ {s : Site} {t : ℕ} {p q : Place} {w w' : List ℕ} (turned : Turned s t p w q w') (few : t < MOST)
-    (room : WORDS ≤ length w) (far : q .end ≤ PLACES) (small : s .location .0 < 256)
+module _ {s : Site} {t : ℕ} {p q : Waypoint} {w w' : List ℕ} (turned : Turned s t p w q w') (few : t < MOST)
+    (room : WORDS ≤ length w) (far : q .end ≤ WAYPOINTS) (small : s .location .0 < 256)
     (copies : copyIn w t ≡ copyFrom (s .location .0) 0 (eventsIn w t))
-    {base : ℕ} (low : STEPS ≤ base) (path : Path s base w t p) (here : placeIn w t ≡ p) where
+    {base : ℕ} (low : STEPS ≤ base) (path : Path s base w t p) (here : waypointIn w t ≡ p) where
   -- It changes words behind the end of the path, which stays.
-  only : OnlyIn (p .end) PLACES w w'
-  only = stored-only (turned .noted) PLACES far
+  only : OnlyIn (p .end) WAYPOINTS w w'
+  only = stored-only (turned .noted) WAYPOINTS far
 
   low-end : STEPS ≤ p .end
   low-end = omega (arith, path-end path)
@@ -179,5 +178,5 @@ module _ {s : Site} {t : ℕ} {p q : Place} {w w' : List ℕ} (turned : Turned s
   -- The path goes on to q.
   pub path-turned : Path s base w' (suc t) q
   path-turned =
-      more {q = q} still (place-kept w w' t (getD-above only (PLACES + t) (omega arith)) ∙ here)
+      more {q = q} still (waypoint-kept w w' t (getD-above only (WAYPOINTS + t) (omega arith)) ∙ here)
       (omega (arith, turned .noted .here)) led-more

@@ -4,7 +4,7 @@ use native.Mathlib.Omega.{arith}
 use mathlib.Core.List.{List}
 use Rattle.rows.specs.declared.Site.{Site}
 use Rattle.walking.specs.Passes.{Ready, OnlyRows}
-use Rattle.walking.proofs.Events.{struct-same, events-same}
+use Rattle.scratch.proofs.Events.{struct-same, events-same}
 
 pub ready-kept : {s : Site} {m : ℕ} {w w' : List ℕ} → Ready s m w → OnlyRows w w' → Ready s m w'
 ready-kept ready only =

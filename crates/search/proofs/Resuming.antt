@@ -1,5 +1,5 @@
--- The walk over rows again, event by event: after t events, the path leads over the place before event `from` to a
--- place from which the rest of the events have a run.
+-- The walk over rows again, event by event: after t events, the path leads over the waypoint before event `from` to a
+-- waypoint from which the rest of the events have a run.
 use Prim.Native.Nat.{ℕ, suc, _+_, _*_, _≤_, _<_}
 use native.Mathlib.Nat.{le-refl}
 use native.Mathlib.Numerals.{add-one}
@@ -12,26 +12,25 @@ use Rattle.model.specs.OneLocation.{HasRunAt}
 use Rattle.rows.specs.declared.Site.{Site}
 use Rattle.rows.specs.Rows.{state}
 use Rattle.rows.specs.Sites.{Describes, copyAfter, copyFrom}
-use Rattle.walking.specs.declared.Place.{Place}
-use Rattle.walking.specs.Scratch.{STEPS, SORTED, PLACES, PLACES-END}
-use Rattle.walking.specs.Scratch.{eventIn, eventsIn, rowIn, copyIn, placeIn}
-use Rattle.walking.specs.Access.{WORDS, MOST, OnlyIn, PlacePut}
+use Rattle.scratch.specs.declared.Waypoint.{Waypoint}
+use Rattle.scratch.specs.Layout.{STEPS, SORTED, WAYPOINTS, LOG, WORDS, MOST, OnlyIn}
+use Rattle.scratch.specs.Words.{eventIn, eventsIn, rowIn, copyIn, waypointIn, WaypointPut}
 use Rattle.walking.specs.Trails.{wordOf}
 use Rattle.walking.specs.Walks.{Standing, Turned}
-use Rattle.walking.proofs.Frames.{only-none, only-then, only-wider}
-use Rattle.walking.proofs.Events.{events-drop}
-use Rattle.walking.proofs.Stored.{stored-only}
-use Rattle.walking.proofs.StepArea.{struct-kept, event-kept, events-kept, row-kept, copy-kept}
+use Rattle.scratch.proofs.Frames.{only-none, only-then, only-wider}
+use Rattle.scratch.proofs.Events.{events-drop}
+use Rattle.scratch.proofs.Stored.{stored-only}
+use Rattle.scratch.proofs.StepArea.{struct-kept, event-kept, events-kept, row-kept, copy-kept}
 use Rattle.search.specs.Paths.{Path, Based, Resumable, Resumed}
 use Rattle.search.proofs.Backward.{copy-next}
-use Rattle.search.proofs.Paths.{path-led, path-end, path-place, path-turned}
+use Rattle.search.proofs.Paths.{path-led, path-end, path-waypoint, path-turned}
 
-pub record Resuming (s : Site) (from m : ℕ) (w : List ℕ) (t : ℕ) (p : Place) (w' : List ℕ) : Type 0 where
+pub record Resuming (s : Site) (from m : ℕ) (w : List ℕ) (t : ℕ) (p : Waypoint) (w' : List ℕ) : Type 0 where
   pub early : from ≤ t
   pub bound : t ≤ m
-  pub frame : OnlyIn (placeIn w from .end) PLACES-END w w'
-  pub far : placeIn w from .end ≤ p .end
-  pub path : (base : ℕ) → Based s base w from (placeIn w from) → Path s base w' t p
+  pub frame : OnlyIn (waypointIn w from .end) LOG w w'
+  pub far : waypointIn w from .end ≤ p .end
+  pub path : (base : ℕ) → Based s base w from (waypointIn w from) → Path s base w' t p
   pub system : Topology
   pub describes : Describes system s
   pub runs : HasRunAt system (s .location .0) (drop t (eventsIn w m))
@@ -39,13 +38,13 @@ pub record Resuming (s : Site) (from m : ℕ) (w : List ℕ) (t : ℕ) (p : Plac
 
 module _ (s : Site) (from m : ℕ) (w : List ℕ) (can : Resumable s from m w) where
   -- Before the first event.
-  pub resuming-none : Resuming s from m w from (placeIn w from) w
+  pub resuming-none : Resuming s from m w from (waypointIn w from) w
   resuming-none =
       record {
         early = le-refl from;
         bound = omega (arith, can .below);
-        frame = only-none (placeIn w from .end) PLACES-END w;
-        far = le-refl (placeIn w from .end);
+        frame = only-none (waypointIn w from .end) LOG w;
+        far = le-refl (waypointIn w from .end);
         path = λ base b. b .path;
         system = can .system;
         describes = can .describes;
@@ -53,11 +52,11 @@ module _ (s : Site) (from m : ℕ) (w : List ℕ) (can : Resumable s from m w) w
       }
 
   -- Before event t.
-  module _ (t : ℕ) (p : Place) (w' : List ℕ) (r : Resuming s from m w t p w') (h : t < m) where
+  module _ (t : ℕ) (p : Waypoint) (w' : List ℕ) (r : Resuming s from m w t p w') (h : t < m) where
     few : t < MOST
     few = omega (arith, can .ready .few)
 
-    low-from : STEPS ≤ placeIn w from .end
+    low-from : STEPS ≤ waypointIn w from .end
     low-from = omega (arith, can .based .low, path-end (can .based .path))
 
     -- The steps so far are at most six for each event.
@@ -66,10 +65,10 @@ module _ (s : Site) (from m : ℕ) (w : List ℕ) (can : Resumable s from m w) w
         let led = path-led (r .path (can .base) (can .based)) in
         omega (arith, led .here, led .few, can .based .high)
 
-    -- The place is put.
-    module _ {w1 : List ℕ} (put : PlacePut w' t p w1) where
+    -- The waypoint is put.
+    module _ {w1 : List ℕ} (put : WaypointPut w' t p w1) where
       -- The events, the rows and the copies are as they were.
-      frame-put : OnlyIn (placeIn w from .end) PLACES-END w w1
+      frame-put : OnlyIn (waypointIn w from .end) LOG w w1
       frame-put =
           only-then (r .frame)
           (only-wider (put .frame) (omega (arith, r .far, resuming-short, few)) (omega (arith, few)))
@@ -112,13 +111,13 @@ module _ (s : Site) (from m : ℕ) (w : List ℕ) (can : Resumable s from m w) w
           }
 
       -- The turn is made.
-      pub resuming-more : s .location .0 < 256 → (q : Place) (w2 : List ℕ) → Turned s t p w1 q w2
+      pub resuming-more : s .location .0 < 256 → (q : Waypoint) (w2 : List ℕ) → Turned s t p w1 q w2
           → Resuming s from m w (t + 1) q w2
       resuming-more small q w2 turned =
           let x = s .location .0 in
           let next = can .rows (suc t) (omega (arith, r .early)) h in
           let right = next .right (r .system) (r .describes) (q .code) (q .memory) (turned .fits) in
-          let end : q .end ≤ PLACES =
+          let end : q .end ≤ WAYPOINTS =
           omega (
             arith,
             turned .noted .here,
@@ -135,10 +134,10 @@ module _ (s : Site) (from m : ℕ) (w : List ℕ) (can : Resumable s from m w) w
             early = omega (arith, r .early);
             bound = h;
             frame = only-then frame-put
-                (only-wider (stored-only (turned .noted) PLACES end) (r .far) (omega arith));
+                (only-wider (stored-only (turned .noted) WAYPOINTS end) (r .far) (omega arith));
             far = omega (arith, r .far, turned .noted .here);
             path = λ base b. path-turned turned few room-put end small copies (b .low)
-                (path-place put (omega (arith, few)) (omega (arith, resuming-short, few)) (b .low)
+                (path-waypoint put (omega (arith, few)) (omega (arith, resuming-short, few)) (b .low)
                 (r .path base b))
                 (put .stored);
             system = r .system;
@@ -147,6 +146,6 @@ module _ (s : Site) (from m : ℕ) (w : List ℕ) (can : Resumable s from m w) w
           })
 
 -- After the last event.
-pub resuming-all : {s : Site} {from m : ℕ} {w : List ℕ} {p : Place} {w' : List ℕ} → Resuming s from m w m p w'
+pub resuming-all : {s : Site} {from m : ℕ} {w : List ℕ} {p : Waypoint} {w' : List ℕ} → Resuming s from m w m p w'
     → Resumed s from m w p w'
 resuming-all r = record { frame = r .frame; path = r .path }

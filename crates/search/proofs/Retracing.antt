@@ -1,4 +1,4 @@
--- Going back over the events, row by row, as far as a row that has the place before its event, or that has
+-- Going back over the events, row by row, as far as a row that has the waypoint before its event, or that has
 -- no state.
 use Prim.Native.Nat.{ℕ, zero, suc, _+_, _-_, _≤_, _<_}
 use native.Mathlib.Omega.{arith}
@@ -16,32 +16,32 @@ use Rattle.rows.specs.Rows.{state, Fine, Empty, lastRow}
 use Rattle.rows.specs.Steps.{Stepped}
 use Rattle.rows.specs.Sites.{Describes, machineOf, copyAfter}
 use Rattle.rows.proofs.RowSteps.{next-copy, next-fits}
-use Rattle.walking.specs.Scratch.{ROWS, STEPS, PLACES, eventIn, eventsIn, copyIn, placeIn}
-use Rattle.walking.specs.Access.{WORDS, MOST, OnlyIn, RowPut}
+use Rattle.scratch.specs.Layout.{ROWS, STEPS, WAYPOINTS, WORDS, MOST, OnlyIn}
+use Rattle.scratch.specs.Words.{eventIn, eventsIn, copyIn, waypointIn, RowPut}
 use Rattle.walking.specs.Passes.{OnlyRows}
-use Rattle.walking.proofs.Frames.{getD-above}
-use Rattle.walking.proofs.Events.{known-machine, events-same, events-drop}
+use Rattle.scratch.proofs.Frames.{getD-above}
+use Rattle.scratch.proofs.Events.{known-machine, events-same, events-drop}
 use Rattle.search.specs.Paths.{Retraceable, Retraced, RunsFrom}
 use Rattle.search.proofs.Backward.{Written, From, written-none, written-more, copy-next}
 
--- The places stay where rows and copies change.
-pub place-same : {w w' : List ℕ} → OnlyIn ROWS STEPS w w' → (d : ℕ) → placeIn w' d ≡ placeIn w d
-unfolding placeIn
-place-same only d = simp (getD-above only (PLACES + d) (omega arith))
+-- The waypoints stay where rows and copies change.
+pub waypoint-same : {w w' : List ℕ} → OnlyIn ROWS STEPS w w' → (d : ℕ) → waypointIn w' d ≡ waypointIn w d
+unfolding waypointIn
+waypoint-same only d = simp (getD-above only (WAYPOINTS + d) (omega arith))
 
 -- A row that answers for events of w answers for those of w', where only rows differ.
 from-kept : {s : Site} {m : ℕ} {w w' : List ℕ} → OnlyRows w w' → m ≤ MOST → (d : ℕ) {row : Row}
     → From s m w d row → From s m w' d row
 from-kept {m} only few d f = rw (events-same (only .frame) m few, only .copies d) f
 
--- The row has the place before event d.
-abbrev pub HasPlace : List ℕ → ℕ → Row → Type 0
-HasPlace w d row = Fine row (placeIn w d .code) (placeIn w d .memory)
+-- The row has the waypoint before event d.
+abbrev pub HasWaypoint : List ℕ → ℕ → Row → Type 0
+HasWaypoint w d row = Fine row (waypointIn w d .code) (waypointIn w d .memory)
 
--- The pass has come to row t, which is `row` and has not the place before event t.
+-- The pass has come to row t, which is `row` and has not the waypoint before event t.
 pub record Retracing (s : Site) (m t : ℕ) (w w' : List ℕ) (row : Row) : Type 0 where
   pub written : Written s m t w w' row
-  pub without : t < m → ¬ HasPlace w t row
+  pub without : t < m → ¬ HasWaypoint w t row
 
 -- It begins behind the last event.
 pub retracing-none : (s : Site) (m : ℕ) (w : List ℕ) → Retracing s m m w w lastRow
@@ -55,13 +55,13 @@ module _ {s : Site} {m : ℕ} {w : List ℕ} (able : Retraceable s m w) where
     omega (arith, able .ready .few, written .bound),
   )
 
-  -- The place before event d can be asked for.
-  pub place-there : {d : ℕ} {w' : List ℕ} {row : Row} → Written s m d w w' row → d < m
-      → (WORDS ≤ length w') × (d < MOST) × (placeIn w' d .code < 64)
-  place-there {d} written h = (
+  -- The waypoint before event d can be asked for.
+  pub waypoint-there : {d : ℕ} {w' : List ℕ} {row : Row} → Written s m d w w' row → d < m
+      → (WORDS ≤ length w') × (d < MOST) × (waypointIn w' d .code < 64)
+  waypoint-there {d} written h = (
     row-room written .0,
     omega (arith, able .ready .few),
-    rw (place-same (written .frame .frame) d) (able .fits d h),
+    rw (waypoint-same (written .frame .frame) d) (able .fits d h),
   )
 
   -- The row is put, and the event before it in front of it.
@@ -74,31 +74,31 @@ module _ {s : Site} {m : ℕ} {w : List ℕ} (able : Retraceable s m w) where
   pub before-end : {t : ℕ} {w' : List ℕ} {row : Row} → Retracing s m t w w' row → 0 < t → t - 1 < m
   before-end r h = omega (arith, r .written .bound)
 
-  -- The row decides whether the events from event d on have a run from the place before it.
+  -- The row decides whether the events from event d on have a run from the waypoint before it.
   decides : {d : ℕ} {w' : List ℕ} {row : Row} → Written s m d w w' row → d < m
       → (sys : Topology) → Describes sys s
-      → (RunsFrom sys s m w d → HasPlace w d row) × (HasPlace w d row → RunsFrom sys s m w d)
+      → (RunsFrom sys s m w d → HasWaypoint w d row) × (HasWaypoint w d row → RunsFrom sys s m w d)
   decides {d} written h sys a =
-      written .here .right sys a (placeIn w d .code) (placeIn w d .memory) (able .fits d h)
+      written .here .right sys a (waypointIn w d .code) (waypointIn w d .memory) (able .fits d h)
 
-  -- A row that has the place ends the pass.
-  pub retraced-here : {d : ℕ} {w' : List ℕ} {row : Row} → Written s m d w w' row → d < m → HasPlace w' d row
+  -- A row that has the waypoint ends the pass.
+  pub retraced-here : {d : ℕ} {w' : List ℕ} {row : Row} → Written s m d w w' row → d < m → HasWaypoint w' d row
       → Retraced s m w d w'
   retraced-here {d} {w'} {row} written h has =
       record {
         frame = written .frame;
         rows = λ k l b. from-kept (written .frame) (able .ready .few) k (written .rows k l b);
-        runs = λ l sys a. decides written h sys a .1 (rw (place-same (written .frame .frame) d) at has);
+        runs = λ l sys a. decides written h sys a .1 (rw (waypoint-same (written .frame .frame) d) at has);
         ends = λ l. absurd (omega arith);
       }
 
-  -- A row that has not the place lets it go on.
-  pub retracing-more : {d : ℕ} {w' : List ℕ} {row : Row} → Written s m d w w' row → ¬ HasPlace w' d row
+  -- A row that has not the waypoint lets it go on.
+  pub retracing-more : {d : ℕ} {w' : List ℕ} {row : Row} → Written s m d w w' row → ¬ HasWaypoint w' d row
       → Retracing s m d w w' row
   retracing-more {d} written none =
-      record { written = written; without = λ h. rw (place-same (written .frame .frame) d) at none }
+      record { written = written; without = λ h. rw (waypoint-same (written .frame .frame) d) at none }
 
-  -- If even the first row has not the first place, there is no run from it.
+  -- If even the first row has not the first waypoint, there is no run from it.
   pub retraced-none : {t : ℕ} {w' : List ℕ} {row : Row} → Retracing s m t w w' row → t ≤ 0
       → Retraced s m w m w'
   retraced-none {t} {w'} {row} r h =
@@ -132,10 +132,10 @@ run-passes sys x own e es u o c n h r =
 
 module _ {s : Site} {m : ℕ} {w : List ℕ} (able : Retraceable s m w) (sys : Topology)
     (a : Describes sys s) where
-  -- A run from the first place leads before every event to a state with its copies.
+  -- A run from the first waypoint leads before every event to a state with its copies.
   run-leads : RunsFrom sys s m w 0 → (d : ℕ) → d ≤ m
       → (c n : ℕ) × (c < 64) × HasRunAt sys (s .location .0) (drop d (eventsIn w m)) (state c (copyIn w d) n)
-  run-leads run zero h = (placeIn w 0 .code, placeIn w 0 .memory, able .fits 0 (able .some), run)
+  run-leads run zero h = (waypointIn w 0 .code, waypointIn w 0 .memory, able .fits 0 (able .some), run)
   run-leads run (suc d) h =
       let x = s .location .0 in
       let own : OneToSix (owner sys x) = rw (a .owned) (a .machine) in
@@ -146,7 +146,7 @@ module _ {s : Site} {m : ℕ} {w : List ℕ} (able : Retraceable s m w) (sys : T
       (g .0, g .1, g .2, rw (copy-next x m w (able .ready .copies) d h) at (g .3))
 
 module _ {s : Site} {m : ℕ} {w : List ℕ} (able : Retraceable s m w) where
-  -- A row without a state ends the pass: there is no run from the first place.
+  -- A row without a state ends the pass: there is no run from the first waypoint.
   pub retraced-empty : {d : ℕ} {w' : List ℕ} {row : Row} → Written s m d w w' row
       → Empty row → Retraced s m w m w'
   retraced-empty {d} written empty =

@@ -1,5 +1,5 @@
--- The path of the walk at one location: the places before the events so far, each with the steps that lead to it. What
--- going back and going on ask and leave of it, and what the events explained leave.
+-- The path of the walk at one location: the waypoints before the events so far, each with the steps that lead to it.
+-- What going back and going on ask and leave of it, and what the events explained leave.
 use Prim.Native.Nat.{ℕ, suc, _+_, _*_, _≤_, _<_}
 use mathlib.Core.Path.{_≡_}
 use mathlib.Core.Bool.{true, false}
@@ -14,11 +14,10 @@ use Rattle.model.specs.Words.{stepOfWord}
 use Rattle.rows.specs.declared.Site.{Site}
 use Rattle.rows.specs.Rows.{state}
 use Rattle.rows.specs.Sites.{Known, Describes, copyFrom}
-use Rattle.walking.specs.declared.Place.{Place}
-use Rattle.walking.specs.Scratch.{ROWS, STEPS, SORTED, PLACES-END, eventsIn, rowIn, copyIn, placeIn}
-use Rattle.walking.specs.Access.{WORDS, MOST, OnlyIn, structIn}
+use Rattle.scratch.specs.declared.Waypoint.{Waypoint}
+use Rattle.scratch.specs.Layout.{ROWS, STEPS, SORTED, LOG, WORDS, MOST, OnlyIn}
+use Rattle.scratch.specs.Words.{eventsIn, rowIn, copyIn, waypointIn, structIn, wordsAt}
 use Rattle.walking.specs.Passes.{Copies, Answers, Fits, Ready, OnlyRows}
-use Rattle.walking.specs.Scratch.{wordsAt}
 use Rattle.walking.specs.Trails.{RunsTo}
 use Rattle.walking.specs.Walks.{Placed, Schedules}
 use Rattle.search.specs.declared.explaining.Onward.{Onward}
@@ -35,7 +34,7 @@ pub record Leading (s : Site) (es : List Event) (ps : List Step) (z : Local) : T
       → RunsTo sys (s .location .0) (weave es ps) (startAt sys (s .location .0)) z
 
 -- The words from `base` to where p ends are those of a schedule for the first t events, which leads to p.
-pub record Led (s : Site) (base : ℕ) (w : List ℕ) (t : ℕ) (p : Place) : Type 0 where
+pub record Led (s : Site) (base : ℕ) (w : List ℕ) (t : ℕ) (p : Waypoint) : Type 0 where
   pub words : List ℕ
   pub few : length words ≤ 6 * t
   pub here : p .end ≡ base + length words
@@ -44,41 +43,41 @@ pub record Led (s : Site) (base : ℕ) (w : List ℕ) (t : ℕ) (p : Place) : Ty
       (state (p .code) (copyFrom (s .location .0) 0 (eventsIn w t)) (p .memory))
   pub fits : p .code < 64
 
--- The places before the first t events are in the area, and after these the walk stands at p.
-pub data Path (s : Site) (base : ℕ) (w : List ℕ) : ℕ → Place → Type 0 where
+-- The waypoints before the first t events are in the area, and after these the walk stands at p.
+pub data Path (s : Site) (base : ℕ) (w : List ℕ) : ℕ → Waypoint → Type 0 where
   start : Path s base w 0 (record { code = 0; memory = s .initial; end = base })
-  more : {t : ℕ} {p q : Place} → Path s base w t p → placeIn w t ≡ p → p .end ≤ q .end
+  more : {t : ℕ} {p q : Waypoint} → Path s base w t p → waypointIn w t ≡ p → p .end ≤ q .end
       → Led s base w (suc t) q → Path s base w (suc t) q
 
 -- The steps of the path begin where the list of steps has room for them.
-pub record Based (s : Site) (base : ℕ) (w : List ℕ) (t : ℕ) (p : Place) : Type 0 where
+pub record Based (s : Site) (base : ℕ) (w : List ℕ) (t : ℕ) (p : Waypoint) : Type 0 where
   pub low : STEPS ≤ base
   pub high : base ≤ SORTED
   pub path : Path s base w t p
 
--- The events, the list of steps up to `base`, and what follows the places are as they were.
+-- The events, the list of steps up to `base`, and what follows the waypoints are as they were.
 pub record Kept (base : ℕ) (w w' : List ℕ) : Type 0 where
   pub sized : length w' ≡ length w
   pub events : take ROWS w' ≡ take ROWS w
   pub list : slice STEPS base w' ≡ slice STEPS base w
-  pub above : drop PLACES-END w' ≡ drop PLACES-END w
+  pub above : drop LOG w' ≡ drop LOG w
 
 -- ---- going back
 
--- The events from event d on, of m, have a run from the place before it.
+-- The events from event d on, of m, have a run from the waypoint before it.
 abbrev pub RunsFrom : Topology → Site → ℕ → List ℕ → ℕ → Type 0
 RunsFrom sys s m w d =
     HasRunAt sys (s .location .0) (drop d (eventsIn w m))
-    (state (placeIn w d .code) (copyIn w d) (placeIn w d .memory))
+    (state (waypointIn w d .code) (copyIn w d) (waypointIn w d .memory))
 
--- There are m events, with a place before each.
+-- There are m events, with a waypoint before each.
 pub record Retraceable (s : Site) (m : ℕ) (w : List ℕ) : Type 0 where
   pub some : 0 < m
   pub ready : Ready s m w
-  pub fits : (d : ℕ) → d < m → placeIn w d .code < 64
+  pub fits : (d : ℕ) → d < m → waypointIn w d .code < 64
 
--- The rows after event r are there, and the events from r on have a run from its place; or r is m, and they have none
--- from the first place.
+-- The rows after event r are there, and the events from r on have a run from its waypoint; or r is m, and they have
+-- none from the first waypoint.
 pub record Retraced (s : Site) (m : ℕ) (w : List ℕ) (r : ℕ) (w' : List ℕ) : Type 0 where
   pub frame : OnlyRows w w'
   pub rows : (d : ℕ) → r < d → d ≤ m → Answers s (drop d (eventsIn w' m)) (copyIn w' d) (rowIn w' d)
@@ -87,35 +86,35 @@ pub record Retraced (s : Site) (m : ℕ) (w : List ℕ) (r : ℕ) (w' : List ℕ
 
 -- ---- walking again
 
--- The rows after event `from` are there, and in some system the events from there on have a run from its place.
+-- The rows after event `from` are there, and in some system the events from there on have a run from its waypoint.
 pub record Resumable (s : Site) (from m : ℕ) (w : List ℕ) : Type 0 where
   pub below : from < m
   pub ready : Ready s m w
   pub rows : (d : ℕ) → from < d → d ≤ m → Answers s (drop d (eventsIn w m)) (copyIn w d) (rowIn w d)
   pub base : ℕ
-  pub based : Based s base w from (placeIn w from)
+  pub based : Based s base w from (waypointIn w from)
   pub system : Topology
   pub describes : Describes system s
   pub runs : RunsFrom system s m w from
 
--- The path leads from the place before event `from` to p, after all m events.
-pub record Resumed (s : Site) (from m : ℕ) (w : List ℕ) (p : Place) (w' : List ℕ) : Type 0 where
-  pub frame : OnlyIn (placeIn w from .end) PLACES-END w w'
-  pub path : (base : ℕ) → Based s base w from (placeIn w from) → Path s base w' m p
+-- The path leads from the waypoint before event `from` to p, after all m events.
+pub record Resumed (s : Site) (from m : ℕ) (w : List ℕ) (p : Waypoint) (w' : List ℕ) : Type 0 where
+  pub frame : OnlyIn (waypointIn w from .end) LOG w w'
+  pub path : (base : ℕ) → Based s base w from (waypointIn w from) → Path s base w' m p
 
 -- ---- one event more
 
--- The walk stands at p after t events, which is the place before event t, and there are the copies up to its end.
-pub record Stuck (s : Site) (t : ℕ) (p : Place) (w : List ℕ) : Type 0 where
+-- The walk stands at p after t events, which is the waypoint before event t, and there are the copies up to its end.
+pub record Stuck (s : Site) (t : ℕ) (p : Waypoint) (w : List ℕ) : Type 0 where
   pub ready : Ready s (suc t) w
-  pub place : placeIn w t ≡ p
+  pub waypoint : waypointIn w t ≡ p
   pub base : ℕ
   pub based : Based s base w t p
   pub system : Topology
   pub describes : Describes system s
 
 -- The walk stands at p after t events, there are the copies up to event t, and that is known.
-pub record Continuable (s : Site) (t : ℕ) (p : Place) (w : List ℕ) : Type 0 where
+pub record Continuable (s : Site) (t : ℕ) (p : Waypoint) (w : List ℕ) : Type 0 where
   pub ready : Ready s t w
   pub few : t < MOST
   pub known : Known (structIn w t)
@@ -125,10 +124,10 @@ pub record Continuable (s : Site) (t : ℕ) (p : Place) (w : List ℕ) : Type 0 
   pub describes : Describes system s
 
 -- The path goes on over event t; or the events up to it have no run.
-pub record Onwards (s : Site) (t : ℕ) (p : Place) (w : List ℕ) (r : Onward) (w' : List ℕ) : Type 0 where
+pub record Onwards (s : Site) (t : ℕ) (p : Waypoint) (w : List ℕ) (r : Onward) (w' : List ℕ) : Type 0 where
   pub kept : (base : ℕ) → Based s base w t p → Kept base w w'
   pub copies : Copies (s .location .0) (suc t) w'
-  pub goes : r .found ≡ true → (base : ℕ) → Based s base w t p → Path s base w' (suc t) (r .place)
+  pub goes : r .found ≡ true → (base : ℕ) → Based s base w t p → Path s base w' (suc t) (r .waypoint)
   pub ends : r .found ≡ false → (sys : Topology) → Describes sys s → ¬ Fits sys s (suc t) w
 
 -- ---- all events

@@ -1,23 +1,23 @@
 // Explains the events at one location, one after the other. An event that is possible where the walk stands takes no
-// silent step. For one that is not, the rows before it say from which earlier place the walk can go on so that it is;
-// if from none, the events up to it have no run.
+// silent step. For one that is not, the rows before it say from which earlier waypoint the walk can go on so that it
+// is; if from none, the events up to it have no run.
 //
 // Callers see to it that the scratch area has at least 4,096 words and at most 129 events, and that these are known, so
 // that none comes to the arms of refused operations.
-use crate::passes::retrace;
+use crate::backtracking::retrace;
 use model::Event;
 use rows::Site;
 use rows::concerned;
 use rows::copy_after;
-use walking::Place;
+use scratch::STEPS;
+use scratch::Waypoint;
+use scratch::get_copy;
+use scratch::get_event;
+use scratch::get_waypoint;
+use scratch::put_copy;
+use scratch::put_waypoint;
 use walking::holds;
 use walking::place_after;
-use walking::scratch::STEPS;
-use walking::scratch::get_copy;
-use walking::scratch::get_event;
-use walking::scratch::get_place;
-use walking::scratch::put_copy;
-use walking::scratch::put_place;
 use walking::turn;
 ghost use Prim.Native.Nat.{ℕ, _<_};
 ghost use mathlib.Core.Path.{_≡_};
@@ -34,7 +34,7 @@ ghost use Rattle.search.specs.Paths.{Explainable, Explained};
 // Where the walk stands after an event, unless the events up to it have no run.
 pub struct Onward {
     pub found: bool,
-    pub place: Place,
+    pub waypoint: Waypoint,
 }
 
 // How many events have a run; if all have one, how many words the list of steps has with those of their schedule.
@@ -44,7 +44,7 @@ pub struct Found {
 }
 
 // The event of the site is possible where the walk stands and copies have the value u.
-fn possible(e: Event, u: u32, p: Place) -> bool
+fn possible(e: Event, u: u32, p: Waypoint) -> bool
     requires { ⌜ Known e ⌝ }
     requires { ⌜ p .code < 64 ⌝ }
     ensures { λ r. ⌜ ((sys : Topology) (x : ℕ) → T (eventAt x (meant e))
@@ -68,56 +68,62 @@ fn possible(e: Event, u: u32, p: Place) -> bool
     }
 }
 
-// Walks again from the place before event `from`, over the rows, to the end of the m events.
-fn resume(w: &mut [u64], site: Site, from: usize, m: usize) -> Place
+// Walks again from the waypoint before event `from`, over the rows, to the end of the m events.
+fn resume(w: &mut [u64], site: Site, from: usize, m: usize) -> Waypoint
     requires { ⌜ Resumable site from m (now w) ⌝ }
     ensures { λ p. ⌜ Resumed site from m (now (w .entry)) p (now (w .exit)) ⌝ }
 {
-    let mut p = get_place(&*w, from);
+    let mut p = get_waypoint(&*w, from);
     let mut t = from;
     while t < m {
-        put_place(w, t, p);
+        put_waypoint(w, t, p);
         p = turn(w, site, t, p);
         t += 1;
     }
     p
 }
 
-// The place after event t, by going back and walking again, when the event is not possible where the walk stands.
-fn go_back(w: &mut [u64], site: Site, t: usize, p: Place) -> Onward
+// The waypoint after event t, by going back and walking again, when the event is not possible where the walk stands.
+fn go_back(w: &mut [u64], site: Site, t: usize, p: Waypoint) -> Onward
     requires { ⌜ Stuck site t p (now w) ⌝ }
     ensures { λ r. ⌜ Onwards site t p (now (w .entry)) r (now (w .exit)) ⌝ }
 {
     let m = t + 1;
     let from = retrace(w, site, m);
     if from < m {
-        let place = resume(w, site, from, m);
-        return Onward { found: true, place };
+        let waypoint = resume(w, site, from, m);
+        return Onward {
+            found: true,
+            waypoint,
+        };
     }
     Onward {
         found: false,
-        place: p,
+        waypoint: p,
     }
 }
 
-// The place after event t, when the walk stands at p before it.
-fn go_on(w: &mut [u64], site: Site, t: usize, p: Place) -> Onward
+// The waypoint after event t, when the walk stands at p before it.
+fn go_on(w: &mut [u64], site: Site, t: usize, p: Waypoint) -> Onward
     requires { ⌜ Continuable site t p (now w) ⌝ }
     ensures { λ r. ⌜ Onwards site t p (now (w .entry)) r (now (w .exit)) ⌝ }
 {
     let e = get_event(&*w, t);
     let u = get_copy(&*w, t);
-    put_place(w, t, p);
+    put_waypoint(w, t, p);
     put_copy(w, t + 1, copy_after(site, u, e));
     if !concerned(site, e) {
         return Onward {
             found: true,
-            place: p,
+            waypoint: p,
         };
     }
     if possible(e, u, p) {
-        let place = place_after(site, e, p);
-        return Onward { found: true, place };
+        let waypoint = place_after(site, e, p);
+        return Onward {
+            found: true,
+            waypoint,
+        };
     }
     go_back(w, site, t, p)
 }
@@ -129,7 +135,7 @@ pub fn explain(w: &mut [u64], site: Site, events: usize, count: usize) -> Found
     ensures { λ r. ⌜ Explained site events count (now (w .entry)) r (now (w .exit)) ⌝ }
 {
     put_copy(w, 0, 0);
-    let mut p = Place {
+    let mut p = Waypoint {
         code: 0,
         memory: site.initial,
         end: STEPS + count,
@@ -143,7 +149,7 @@ pub fn explain(w: &mut [u64], site: Site, events: usize, count: usize) -> Found
                 steps: count,
             };
         }
-        p = next.place;
+        p = next.waypoint;
         t += 1;
     }
     Found {

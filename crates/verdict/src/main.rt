@@ -8,14 +8,12 @@ use schedules::FIRST;
 use schedules::Step;
 use schedules::StepAt;
 use schedules::step_at;
+use scratch::WORDS;
 use verdict_file::FILE_MOST;
 
 // The most bytes that are read. An accepted log has at most 1,160 bytes, and what the judge makes of the first
 // 1,161 bytes of an input is right for the whole input, as proofs/Input.antt shows.
 const INPUT_MOST: usize = 1161;
-
-// The words of the judge's scratch area.
-const WORDS: usize = 4096;
 
 // Enough for the first line, 256 lines of at most 9 bytes, and the last.
 const PAGE: usize = 4096;

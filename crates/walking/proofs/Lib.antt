@@ -1,12 +1,6 @@
-pub mod Frames
-pub mod Access
-pub mod Events
 pub mod StepWords
-pub mod StepArea
 pub mod Trails
 pub mod Holders
 pub mod Givers
 pub mod Entering
 pub mod Turns
-pub mod Stored
-pub mod Segments

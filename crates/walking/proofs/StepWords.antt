@@ -13,9 +13,9 @@ use Rattle.model.specs.Cxl0.{Machine}
 use Rattle.model.specs.Schedule.{Step, inOrder}
 use Rattle.model.specs.Words.{stepOfWord}
 use Rattle.model.proofs.Weaving.{inOrder-cons}
-use Rattle.walking.specs.Stored.{Stored}
+use Rattle.scratch.specs.Stored.{Stored}
 use Rattle.walking.specs.Trails.{oneIf, stepAt, wordOf}
-use Rattle.walking.proofs.Stored.{stored-more}
+use Rattle.scratch.proofs.Stored.{stored-more}
 
 pub at-inOrder : (n m x : ℕ) (is : List Machine) → n ≤ m → T (inOrder n m (map (stepAt n x) is))
 unfolding inOrder

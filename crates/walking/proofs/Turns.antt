@@ -20,13 +20,13 @@ use Rattle.rows.proofs.Rows.{run-enters}
 use Rattle.rows.proofs.Lines.{before-line}
 use Rattle.rows.proofs.Gaps.{right-skip}
 use Rattle.rows.proofs.RowSteps.{next-copy, next-fits, copy-elsewhere}
-use Rattle.walking.specs.declared.Place.{Place}
+use Rattle.scratch.specs.declared.Waypoint.{Waypoint}
 use Rattle.walking.specs.Trails.{stepAt, RunsTo}
 use Rattle.walking.specs.Places.{codeAfter, memoryAfter, placeAfter}
 use Rattle.walking.specs.Walks.{Enters, Moved, Standing, Turned}
-use Rattle.walking.specs.Scratch.{eventIn, rowIn, copyIn}
-use Rattle.walking.proofs.Stored.{stored-none}
-use Rattle.walking.proofs.Events.{known-machine}
+use Rattle.scratch.specs.Words.{eventIn, rowIn, copyIn}
+use Rattle.scratch.proofs.Stored.{stored-none}
+use Rattle.scratch.proofs.Events.{known-machine}
 use Rattle.walking.proofs.Trails.{runsTo-none, runsTo-cons, runsTo-append, trail-runs}
 
 -- The state after an event of the site.
@@ -91,7 +91,7 @@ elsewhere-runs sys s e away c u m =
 
 -- ---- one turn
 
-module _ (s : Site) (t : ℕ) (p : Place) (w : List ℕ) (stands : Standing s t p w) where
+module _ (s : Site) (t : ℕ) (p : Waypoint) (w : List ℕ) (stands : Standing s t p w) where
   machine : OneToSix (machineOf (eventIn w t))
   machine = known-machine w t (stands .steppable .known)
 
@@ -124,7 +124,7 @@ module _ (s : Site) (t : ℕ) (p : Place) (w : List ℕ) (stands : Standing s t 
         (stands .system) (stands .describes) (p .code) (p .memory) (stands .fits)
         machine (stands .rest) (stands .right) (stands .runs)
 
-    pub turned-here : (q : Place) (w' : List ℕ) → Moved s t (copyIn w t) p w q w'
+    pub turned-here : (q : Waypoint) (w' : List ℕ) → Moved s t (copyIn w t) p w q w'
         → Fine inner (q .code) (q .memory) → Turned s t p w (placeAfter s (eventIn w t) q) w'
     turned-here q w' m f =
         let x = s .location .0 in

@@ -11,8 +11,8 @@ use Rattle.rows.specs.declared.Row.{Row}
 use Rattle.rows.specs.declared.Site.{Site}
 use Rattle.rows.specs.Rows.{Right, Closed}
 use Rattle.rows.specs.Sites.{Known, Describes, copyAfter, copyFrom}
-use Rattle.walking.specs.Scratch.{ROWS, STEPS, eventIn, eventsIn, copyIn}
-use Rattle.walking.specs.Access.{WORDS, MOST, OnlyIn, structIn}
+use Rattle.scratch.specs.Layout.{ROWS, STEPS, WORDS, MOST, OnlyIn}
+use Rattle.scratch.specs.Words.{eventIn, eventsIn, copyIn, structIn}
 
 -- The copy words of rows 0 to m have the values of the copies of x after so many events.
 abbrev pub Copies : Location → ℕ → List ℕ → Type 0

@@ -6,7 +6,7 @@ use Rattle.model.specs.Cxl0.{Machine, Value}
 use Rattle.model.specs.Cxl0.{Event, LStore, RStore, MStore, Load, LFlush, RFlush, Crash}
 use Rattle.model.specs.Sharers.{insert, remove}
 use Rattle.rows.specs.declared.Site.{Site}
-use Rattle.walking.specs.declared.Place.{Place}
+use Rattle.scratch.specs.declared.Waypoint.{Waypoint}
 
 -- The owner is k.
 unfoldable pub codeAfter : Machine → Event → ℕ → ℕ
@@ -27,6 +27,6 @@ memoryAfter s (LFlush i x) m = m
 memoryAfter s (RFlush i x) m = m
 memoryAfter s (Crash i) m = cond (eqb (s .owner .0) i && s .volatile) (s .initial) m
 
-abbrev pub placeAfter : Site → Event → Place → Place
+abbrev pub placeAfter : Site → Event → Waypoint → Waypoint
 placeAfter s e p =
     record { code = codeAfter (s .owner .0) e (p .code); memory = memoryAfter s e (p .memory); end = p .end }

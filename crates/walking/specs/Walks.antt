@@ -14,11 +14,11 @@ use Rattle.rows.specs.declared.Row.{Row}
 use Rattle.rows.specs.declared.Site.{Site}
 use Rattle.rows.specs.Rows.{state, Fine, Right}
 use Rattle.rows.specs.Sites.{Describes, copyAfter}
-use Rattle.walking.specs.declared.Place.{Place}
-use Rattle.walking.specs.Scratch.{eventIn, rowIn, copyIn}
-use Rattle.walking.specs.Access.{WORDS}
+use Rattle.scratch.specs.declared.Waypoint.{Waypoint}
+use Rattle.scratch.specs.Words.{eventIn, rowIn, copyIn}
+use Rattle.scratch.specs.Layout.{WORDS}
 use Rattle.walking.specs.Passes.{Steppable}
-use Rattle.walking.specs.Stored.{Stored}
+use Rattle.scratch.specs.Stored.{Stored}
 use Rattle.walking.specs.Trails.{Trail, stepAt, wordOf, RunsTo}
 use Rattle.walking.specs.Allowance.{allowance}
 
@@ -33,7 +33,7 @@ abbrev pub Enters : Machine → Value → Row → ℕ → Value → Type 0
 Enters k u row c m = (d n : ℕ) × Reaches k (state c u m) (state d u n) × Fine row d n
 
 -- Silent steps after t events are noted where p ends, and lead from p to q; copies have the value u.
-pub record Moved (s : Site) (t : ℕ) (u : Value) (p : Place) (w : List ℕ) (q : Place) (w' : List ℕ)
+pub record Moved (s : Site) (t : ℕ) (u : Value) (p : Waypoint) (w : List ℕ) (q : Waypoint) (w' : List ℕ)
     : Type 0 where
   pub machines : List Machine
   pub few : length machines ≤ 6
@@ -43,8 +43,8 @@ pub record Moved (s : Site) (t : ℕ) (u : Value) (p : Place) (w : List ℕ) (q 
 
 -- ---- a turn: the gap before an event, and the event
 
--- The walk stands before event t at a place from which the events can be finished.
-pub record Standing (s : Site) (t : ℕ) (p : Place) (w : List ℕ) : Type 0 where
+-- The walk stands before event t at a waypoint from which the events can be finished.
+pub record Standing (s : Site) (t : ℕ) (p : Waypoint) (w : List ℕ) : Type 0 where
   pub steppable : Steppable s t w (rowIn w (suc t))
   pub space : p .end + 6 ≤ WORDS
   pub fits : p .code < 64
@@ -57,7 +57,7 @@ pub record Standing (s : Site) (t : ℕ) (p : Place) (w : List ℕ) : Type 0 whe
 
 -- Silent steps are noted where p ends. They and event t lead from p to q, from which the events after that can
 -- be finished.
-pub record Turned (s : Site) (t : ℕ) (p : Place) (w : List ℕ) (q : Place) (w' : List ℕ) : Type 0 where
+pub record Turned (s : Site) (t : ℕ) (p : Waypoint) (w : List ℕ) (q : Waypoint) (w' : List ℕ) : Type 0 where
   pub machines : List Machine
   pub few : length machines ≤ 6
   pub noted : Noted s t machines w (p .end) w' (q .end)

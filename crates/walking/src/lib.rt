@@ -2,11 +2,8 @@
 // is possible and the events after it can be finished.
 //
 // Internal: only crates of this project call it, and they meet what it requires. The rows are there, the
-// events have a run from the place where the walk begins, and they are known, so that none comes to the arms of refused
+// events have a run from where the walk begins, and they are known, so that none comes to the arms of refused
 // operations.
-use crate::scratch::get_copy;
-use crate::scratch::get_event;
-use crate::scratch::get_row;
 use masks::alone;
 use masks::lowest;
 use model::Event;
@@ -18,6 +15,10 @@ use rows::codes;
 use rows::concerned;
 use rows::fine;
 use rows::row_before;
+use scratch::Waypoint;
+use scratch::get_copy;
+use scratch::get_event;
+use scratch::get_row;
 ghost use Prim.Native.Nat.{_+_, _≤_, _<_};
 ghost use mathlib.Core.Path.{_≡_};
 ghost use mathlib.Core.Logic.{_≢_};
@@ -26,19 +27,10 @@ ghost use Rattle.model.specs.Sharers.{has};
 ghost use Rattle.masks.specs.Sets.{OneToSix};
 ghost use Rattle.rows.specs.Rows.{Fine};
 ghost use Rattle.rows.specs.Sites.{meant, Known};
-ghost use Rattle.walking.specs.Stored.{Stored};
+ghost use Rattle.scratch.specs.Stored.{Stored};
 ghost use Rattle.walking.specs.Trails.{FirstHolder, oneIf, givesUp, leaving, wordOf};
 ghost use Rattle.walking.specs.Places.{codeAfter, memoryAfter, placeAfter};
 ghost use Rattle.walking.specs.Walks.{Noted, Enters, Moved, Standing, Turned};
-
-pub mod scratch;
-
-// Where the walk stands: the code and the memory value of the location, and where the list of steps ends.
-pub struct Place {
-    pub code: u8,
-    pub memory: u32,
-    pub end: usize,
-}
 
 // What stands for a write-back where a step names its machine: no machine has the number 0.
 const WRITE_BACK: Machine = Machine(0);
@@ -105,7 +97,7 @@ fn move_to(w: &mut [u64], at: usize, site: Site, t: usize, c: u8, d: u8) -> usiz
 }
 
 // A write-back of copies of the value u, after a move of the first machine that has one if the owner has none.
-fn write_back(w: &mut [u64], site: Site, t: usize, u: u32, p: Place) -> Place
+fn write_back(w: &mut [u64], site: Site, t: usize, u: u32, p: Waypoint) -> Waypoint
     requires { ⌜ (p .end + 2 ≤ length (now w)) × (t < 256) ⌝ }
     requires { ⌜ OneToSix (site .owner .0) ⌝ }
     requires { ⌜ (p .code < 64) × (p .code ≢ 0) ⌝ }
@@ -117,17 +109,17 @@ fn write_back(w: &mut [u64], site: Site, t: usize, u: u32, p: Place) -> Place
     let owned = holds(c, site.owner);
     let to = put_if(w, p.end, !owned, word(site, t, first));
     let end = put_if(w, to, true, word(site, t, WRITE_BACK));
-    Place {
+    Waypoint {
         code: 0,
         memory: u,
         end: end,
     }
 }
 
-// The silent steps before event t, in which copies have the value u: none if the row has the place, else moves
+// The silent steps before event t, in which copies have the value u: none if the row has the waypoint, else moves
 // to the least code that they reach and the row has, else a write-back. No moves reach code 0, so that a row
 // with no other code takes a write-back.
-fn gap(w: &mut [u64], site: Site, t: usize, u: u32, row: Row, p: Place) -> Place
+fn gap(w: &mut [u64], site: Site, t: usize, u: u32, row: Row, p: Waypoint) -> Waypoint
     requires { ⌜ (p .end + 6 ≤ length (now w)) × (t < 256) ⌝ }
     requires { ⌜ OneToSix (site .owner .0) ⌝ }
     requires { ⌜ (p .code < 64) × Enters (site .owner .0) u row (p .code) (p .memory) ⌝ }
@@ -144,7 +136,7 @@ fn gap(w: &mut [u64], site: Site, t: usize, u: u32, row: Row, p: Place) -> Place
     if there != 0 {
         let d = lowest(there);
         let end = move_to(w, p.end, site, t, p.code, d);
-        return Place {
+        return Waypoint {
             code: d,
             memory: p.memory,
             end: end,
@@ -198,8 +190,8 @@ fn memory_after(site: Site, e: Event, m: u32) -> u32
     }
 }
 
-// The place after an event of the site.
-pub fn place_after(site: Site, e: Event, p: Place) -> Place
+// The waypoint after an event of the site.
+pub fn place_after(site: Site, e: Event, p: Waypoint) -> Waypoint
     requires { ⌜ OneToSix (site .owner .0) ⌝ }
     requires { ⌜ Known e ⌝ }
     requires { ⌜ p .code < 64 ⌝ }
@@ -207,7 +199,7 @@ pub fn place_after(site: Site, e: Event, p: Place) -> Place
 {
     let code = code_after(site, e, p.code);
     let memory = memory_after(site, e, p.memory);
-    Place {
+    Waypoint {
         code: code,
         memory: memory,
         end: p.end,
@@ -215,7 +207,7 @@ pub fn place_after(site: Site, e: Event, p: Place) -> Place
 }
 
 // One event, with the silent steps before it.
-pub fn turn(w: &mut [u64], site: Site, t: usize, p: Place) -> Place
+pub fn turn(w: &mut [u64], site: Site, t: usize, p: Waypoint) -> Waypoint
     requires { ⌜ Standing site t p (now w) ⌝ }
     ensures { λ r. ⌜ Turned site t p (now (w .entry)) r (now (w .exit)) ⌝ }
 {

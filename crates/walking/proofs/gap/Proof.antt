@@ -9,7 +9,7 @@ use borrow.Author.Needs.{needs}
 use Rattle.model.specs.OneLocation.{Moves}
 use Rattle.rows.specs.Rows.{Fine}
 use Rattle.walking.specs.Trails.{none, leaving}
-use Rattle.walking.proofs.Stored.{stored-none}
+use Rattle.scratch.proofs.Stored.{stored-none}
 use Rattle.walking.proofs.Givers.{leaving-few, leaving-trail}
 use Rattle.walking.proofs.Entering.{enters-moves, enters-written, enters-drained}
 use Rattle.walking.proofs.gap.Statement.{statement}

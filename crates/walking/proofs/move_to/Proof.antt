@@ -5,7 +5,7 @@ use mathlib.Core.Path.{_≡_, refl}
 use lib.ListN.{length, length-map}
 use Rattle.walking.specs.Trails.{givesUp, leaving, wordOf}
 use Rattle.walking.specs.Walks.{Noted}
-use Rattle.walking.proofs.Stored.{stored-none, stored-length}
+use Rattle.scratch.proofs.Stored.{stored-none, stored-length}
 use Rattle.walking.proofs.StepWords.{stored-if}
 use Rattle.walking.proofs.Givers.{leaving-few}
 use Rattle.walking.proofs.move_to.Statement.{statement}

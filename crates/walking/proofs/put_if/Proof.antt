@@ -1,6 +1,6 @@
 -- `put_if` meets its contract.
 use borrow.Author.Needs.{needs}
-use Rattle.walking.proofs.Stored.{stored-none, stored-one}
+use Rattle.scratch.proofs.Stored.{stored-none, stored-one}
 use Rattle.walking.proofs.put_if.Statement.{statement}
 use Rattle.walking.proofs.put_if.Tie as tie
 

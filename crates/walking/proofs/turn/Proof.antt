@@ -11,8 +11,8 @@ use Rattle.model.proofs.Tests.{true→T, false→not}
 use Rattle.rows.specs.Rows.{RowOf}
 use Rattle.rows.specs.Lines.{Line}
 use Rattle.rows.specs.Sites.{Known, Describes, meant}
-use Rattle.walking.specs.Scratch.{eventIn, rowIn, copyIn}
-use Rattle.walking.proofs.Events.{meant-read}
+use Rattle.scratch.specs.Words.{eventIn, rowIn, copyIn}
+use Rattle.scratch.proofs.Events.{meant-read}
 use Rattle.walking.proofs.Turns.{turned-elsewhere, turn-enters, turned-here}
 use Rattle.walking.proofs.turn.Statement.{statement}
 use Rattle.walking.proofs.turn.Tie as tie

@@ -7,7 +7,7 @@ use lib.ListN.{length-append}
 use borrow.Author.Needs.{needs}
 use Rattle.model.specs.Sharers.{has}
 use Rattle.walking.specs.Trails.{oneIf, draining, wordOf}
-use Rattle.walking.proofs.Stored.{stored-none, stored-length}
+use Rattle.scratch.proofs.Stored.{stored-none, stored-length}
 use Rattle.walking.proofs.StepWords.{oneIf-few, stored-if}
 use Rattle.walking.proofs.Entering.{draining-trail}
 use Rattle.walking.proofs.write_back.Statement.{statement}

@@ -5,9 +5,8 @@ use mathlib.Core.Path.{_≡_}
 use mathlib.Core.List.{List}
 use lib.ListN.{length}
 use Rattle.model.specs.Cxl0.{Location, Event}
-use Rattle.walking.specs.Scratch.{EVENTS, ROWS}
-use Rattle.walking.specs.Access.{OnlyIn}
-use Rattle.walking.proofs.Frames.{only-none, only-then}
+use Rattle.scratch.specs.Layout.{EVENTS, ROWS, OnlyIn}
+use Rattle.scratch.proofs.Frames.{only-none, only-then}
 use Rattle.events.specs.Linking.{headOf, Linked}
 use Rattle.events.specs.Picking.{nearer}
 use Rattle.events.proofs.Copies.{copied-frame, linked-same, linked-back}

@@ -3,7 +3,7 @@ use native.Mathlib.Omega.{arith}
 use mathlib.Core.Path.{_∙_}
 use denote.Ref.{now}
 use borrow.Author.Needs.{needs}
-use Rattle.walking.specs.Scratch.{SORTED}
+use Rattle.scratch.specs.Layout.{SORTED}
 use Rattle.judge.specs.Visiting.{Visits}
 use Rattle.judge.proofs.Concluding.{few-events, ends-first, steps-listed, arranged}
 use Rattle.judge.proofs.Soundness.{part-words, settled-impossible, settled-allowed}

@@ -1,4 +1,4 @@
--- `search::explaining::go_back` meets its contract: the rows say from which place the walk can go on.
+-- `search::explaining::go_back` meets its contract: the rows say from which waypoint the walk can go on.
 use native.Mathlib.Omega.{arith}
 use borrow.Author.Needs.{needs}
 use Rattle.search.proofs.Continuing.{retraceable, resumable, went-back, went-nowhere}

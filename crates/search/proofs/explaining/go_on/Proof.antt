@@ -8,8 +8,8 @@ use mathlib.Core.Bool.{not, Bool·not-not}
 use borrow.Author.Needs.{needs}
 use Rattle.model.proofs.Tests.{true→T}
 use Rattle.rows.specs.Sites.{meant, Known, copyAfter}
-use Rattle.walking.specs.Scratch.{eventIn}
-use Rattle.walking.proofs.Events.{meant-read}
+use Rattle.scratch.specs.Words.{eventIn}
+use Rattle.scratch.proofs.Events.{meant-read}
 use Rattle.search.proofs.Continuing.{Begun, begun, continuable-end, continuable-fits}
 use Rattle.search.proofs.Continuing.{went-elsewhere, went-ahead, went-otherwise}
 use Rattle.search.proofs.explaining.go_on.Statement.{statement}
@@ -19,15 +19,15 @@ use Rattle.search.proofs.explaining.go_on.Tie as tie
 known : (h : tie.After-get-event) → Known (h .get-event .result)
 known h = rw (h .get-event .ensures) (h .before .before .before .pre .known)
 
-put-place-requires : tie.Need-put-place-requires
-put-place-requires c κs =
+put-waypoint-requires : tie.Need-put-waypoint-requires
+put-waypoint-requires c κs =
     let start = c .before .before .before .before .before .before in
     (omega arith, omega arith, omega (arith, continuable-end (start .pre)))
 
 copy-after-requires : tie.Need-copy-after-requires
 copy-after-requires c κs = known (c .before .before .before .before .before .before .before)
 
--- ---- once the place and the copies are put
+-- ---- once the waypoint and the copies are put
 
 -- The calls before, and where the function began.
 abbrev got-copy : tie.After-put-copy → tie.After-get-copy
@@ -49,13 +49,13 @@ read h =
     let got = got-event h .get-event in
     meant-read (words h) (start h .args .t) (got .result) (got .ensures)
 
--- The place before the event and the copies after it are put.
+-- The waypoint before the event and the copies after it are put.
 begins : (h : tie.After-put-copy)
     → Begun (start h .args .site) (start h .args .t) (start h .args .p) (words h) (h .put-copy .last .0)
 begins h =
     let x = start h .args .site .location .0 in
     let next = h .before .copy-after .ensures ∙ ap₂ (copyAfter x) (got-copy h .get-copy .ensures) (read h) in
-    let placed = h .before .before .before .before .before .put-place .ensures in
+    let placed = h .before .before .before .before .before .put-waypoint .ensures in
     begun (start h .pre) placed (h .put-copy .ensures) next
 
 concerned-requires : tie.Need-concerned-requires
@@ -108,7 +108,7 @@ go-on-spec =
     (tie.spec
     (λ c κs. search needs)
     (λ c κs. search needs)
-    put-place-requires
+    put-waypoint-requires
     (λ c. search needs)
     copy-after-requires
     (λ c κs. search needs)

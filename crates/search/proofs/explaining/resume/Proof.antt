@@ -2,7 +2,7 @@
 use Prim.Native.Nat.{_-_}
 use native.Mathlib.Omega.{arith}
 use mathlib.Core.Path.{_≡_, subst, sym}
-use Rattle.walking.specs.declared.Place.{Place}
+use Rattle.scratch.specs.declared.Waypoint.{Waypoint}
 use Rattle.search.proofs.Resuming.{Resuming, resuming-none, resuming-short, resuming-stands}
 use Rattle.search.proofs.Resuming.{resuming-more, resuming-all}
 use Rattle.search.proofs.explaining.resume.Statement.{statement}
@@ -14,8 +14,8 @@ Inv-loop w₀ site from m p₀ t₀ w p t = Resuming site from m w₀ t p w
 abbrev μ-loop : tie.MeasureT-loop
 μ-loop w₀ site from m p₀ t₀ w p t = m - t
 
-get-place-requires : tie.Need-get-place-requires Inv-loop μ-loop
-get-place-requires c κs =
+get-waypoint-requires : tie.Need-get-waypoint-requires Inv-loop μ-loop
+get-waypoint-requires c κs =
     let can = c .before .before .pre in
     omega (arith, can .ready .room, can .ready .few, can .below)
 
@@ -23,12 +23,12 @@ loop-holds : tie.Need-loop-holds Inv-loop μ-loop
 loop-holds c =
     let start = c .before .before .before in
     let a = start .args in
-    subst (λ (p : Place). Resuming (a .site) (a .from) (a .m) (a .w .now) (a .from) p (a .w .now))
-    (sym (c .get-place .ensures))
+    subst (λ (p : Waypoint). Resuming (a .site) (a .from) (a .m) (a .w .now) (a .from) p (a .w .now))
+    (sym (c .get-waypoint .ensures))
     (resuming-none (a .site) (a .from) (a .m) (a .w .now) (start .pre))
 
-put-place-requires : tie.Need-put-place-requires Inv-loop μ-loop
-put-place-requires c κs =
+put-waypoint-requires : tie.Need-put-waypoint-requires Inv-loop μ-loop
+put-waypoint-requires c κs =
     let h = c .before .before in
     let start = h .before .before .before .before in
     let a = start .args in
@@ -46,7 +46,7 @@ turn-requires c κs =
     let a = start .args in
     resuming-stands (a .site) (a .from) (a .m) (a .w .now) (start .pre)
     (h .loop .t) (h .loop .p) (h .loop .w) (h .loop .inv) (put .before .before .loop-test .taken)
-    (put .put-place .ensures)
+    (put .put-waypoint .ensures)
 
 add-t : tie.Need-add-t Inv-loop μ-loop
 add-t c = omega arith
@@ -63,7 +63,7 @@ loop-again c =
     let a = start .args in
     resuming-more (a .site) (a .from) (a .m) (a .w .now) (start .pre)
     (h .loop .t) (h .loop .p) (h .loop .w) (h .loop .inv) (put .before .before .loop-test .taken)
-    (put .put-place .ensures) (omega (arith, start .good .1 .0))
+    (put .put-waypoint .ensures) (omega (arith, start .good .1 .0))
     (turn .turn .result) (turn .turn .last .0) (turn .turn .ensures)
 
 same-length : tie.Need-same-length Inv-loop μ-loop
@@ -82,9 +82,9 @@ resume-spec =
     (tie.spec
     Inv-loop
     μ-loop
-    get-place-requires
+    get-waypoint-requires
     loop-holds
-    put-place-requires
+    put-waypoint-requires
     turn-requires
     add-t
     loop-less
