@@ -27,7 +27,8 @@ impl Entry {
 
     // The storing machine's cache gets the value; every other cache loses its copy.
     fn l_store(self, site: Site, e: Event) -> Acted
-        ensures { λ r. ⌜ r ≡ actedOf (siteMeant site) (event (LStore (e .machine .0) (e .location .0) (e .value))) self ⌝ }
+        ensures { λ r. ⌜ r ≡ actedOf (siteMeant site)
+            (event (LStore (e .machine .0) (e .location .0) (e .value))) self ⌝ }
     {
         let entry = Entry {
             sharers: bit(e.machine),
@@ -42,7 +43,8 @@ impl Entry {
 
     // The owner's cache gets the value; every other cache loses its copy.
     fn r_store(self, site: Site, e: Event) -> Acted
-        ensures { λ r. ⌜ r ≡ actedOf (siteMeant site) (event (RStore (e .machine .0) (e .location .0) (e .value))) self ⌝ }
+        ensures { λ r. ⌜ r ≡ actedOf (siteMeant site)
+            (event (RStore (e .machine .0) (e .location .0) (e .value))) self ⌝ }
     {
         let entry = Entry {
             sharers: bit(site.owner),
@@ -57,7 +59,8 @@ impl Entry {
 
     // Memory gets the value; every cache loses its copy.
     fn m_store(self, site: Site, e: Event) -> Acted
-        ensures { λ r. ⌜ r ≡ actedOf (siteMeant site) (event (MStore (e .machine .0) (e .location .0) (e .value))) self ⌝ }
+        ensures { λ r. ⌜ r ≡ actedOf (siteMeant site)
+            (event (MStore (e .machine .0) (e .location .0) (e .value))) self ⌝ }
     {
         let stored = Entry {
             sharers: 0,
@@ -73,7 +76,8 @@ impl Entry {
     // If there is no copy, memory must hold the value, and nothing changes. If there is one, it must have the
     // value, and the loading machine's cache gets it too.
     fn load(self, site: Site, e: Event) -> Acted
-        ensures { λ r. ⌜ r ≡ actedOf (siteMeant site) (event (Load (e .machine .0) (e .location .0) (e .value))) self ⌝ }
+        ensures { λ r. ⌜ r ≡ actedOf (siteMeant site)
+            (event (Load (e .machine .0) (e .location .0) (e .value))) self ⌝ }
     {
         let c = self.sharers;
         let v = e.value;

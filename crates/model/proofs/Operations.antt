@@ -82,15 +82,14 @@ by-number e P p₁ p₂ p₃ p₄ p₅ p₆ q =
     choose P op 4 p₄ (λ n₄. choose P op 5 p₅ (λ n₅. choose P op 6 p₆ (λ n₆.
     q op (λ l h. omega arith)))))))
 
--- An operation but 7 is at its location.
-pub at-location : (e : event.Event) → T (isOperation (e .operation)) → e .operation ≢ 7
+-- The operations 1 to 6 are at a location.
+pub at-location : (e : event.Event) → 1 ≤ e .operation → e .operation ≤ 6
     → locationOf (meant e) ≡ some (e .location .0)
 unfolding locationOf
-at-location e is n =
-    let range = operation-range is in
-    by-number e (λ op f. (1 ≤ op) × (op ≤ 6) → locationOf f ≡ some (e .location .0))
-    (λ h. refl) (λ h. refl) (λ h. refl) (λ h. refl) (λ h. refl) (λ h. refl) (λ op out h. absurd (out (h .0) (h .1)))
-    (range .0, omega (arith, range .1))
+at-location e =
+    by-number e (λ op f. 1 ≤ op → op ≤ 6 → locationOf f ≡ some (e .location .0))
+    (λ l h. refl) (λ l h. refl) (λ l h. refl) (λ l h. refl) (λ l h. refl) (λ l h. refl)
+    (λ op out l h. absurd (out l h))
 
 -- A number in the range is none of the others.
 inside : {A B C : Type 0} → A → B → (A → B → ⊥) → C

@@ -12,11 +12,7 @@ use Rattle.masks.proofs.Codes.{has-itself, insert-fits}
 use Rattle.rows.specs.declared.Row.{Row}
 use Rattle.rows.specs.Rows.{Fine, anyRow, RowOf, Closed}
 use Rattle.rows.proofs.FineRows.{row, fine-any}
-
--- The Load line.
-abbrev Loads : Row → Machine → Value → Value → ℕ → Value → Type 0
-Loads rest i u v c m =
-    ((c ≡ 0) × (m ≡ v) × Fine rest 0 v) ⊎ ((c ≢ 0) × (u ≡ v) × Fine rest (insert i c) m)
+use Rattle.rows.proofs.Lines.{Loads}
 
 module _ (rest : Row) (i : Machine) (u v : Value) where
   -- Code 0 is fine after the load: it may read memory, and if u is v, a closed row has every code with i.

@@ -7,18 +7,18 @@ use mathlib.Core.Path.{_≡_, refl, ap, _∙_}
 use mathlib.Core.Bool.{Bool, true, false, cond, not}
 use mathlib.Core.List.{List, _∷_}
 use lib.Dec.{T, eqb}
-use Rattle.model.specs.Cxl0.{Location, Value, Topology, owner, event}
+use Rattle.model.specs.Cxl0.{Machine, Location, Value, Topology, owner, initial, event}
 use Rattle.model.specs.Cxl0.{Event, LStore, RStore, MStore, Load, LFlush, RFlush, Crash}
-use Rattle.model.specs.OneLocation.{Local, eventAt, concerns, effect, nextAt}
-use Rattle.model.proofs.Tests.{not→false}
+use Rattle.model.specs.OneLocation.{Local, Site, siteOf, machineOf, eventAt, concerns, effect, nextAt}
+use Rattle.model.proofs.Tests.{T→true, not→false}
 use Rattle.model.proofs.Sharers.{remove-le}
 use Rattle.masks.specs.Sets.{OneToSix}
 use Rattle.masks.proofs.Codes.{insert-fits}
 use Rattle.rows.specs.declared.Row.{Row}
-use Rattle.rows.specs.declared.Site.{Site}
-use Rattle.rows.specs.Rows.{RowOf, Right, Closed, Gap}
-use Rattle.rows.specs.Lines.{Line}
-use Rattle.rows.specs.Sites.{Describes, machineOf, copyAfter}
+use Rattle.entries.specs.Entries.{siteMeant}
+use Rattle.entries.specs.declared.Site as site
+use Rattle.rows.specs.Rows.{RowOf, Line, Right, Closed, Gap}
+use Rattle.rows.specs.Sites.{Describes, copyLeft, copyAfter}
 use Rattle.rows.specs.Steps.{Stepped}
 use Rattle.rows.proofs.Rows.{right-cons}
 use Rattle.rows.proofs.Lines.{before-line}
@@ -39,49 +39,75 @@ Copies u s = s .copy ≡ u
 abbrev Fits : Local → Type 0
 Fits s = s .code < 64
 
-module _ (sys : Topology) (x : Location) where
-  -- The value of the copies after an event is `copyAfter`.
-  pub next-copy : (e : Event) (s : Local) → nextAt sys x (event e) s .copy ≡ copyAfter x (s .copy) e
-  unfolding nextAt concerns eventAt effect copyAfter
-  next-copy (LStore i y v) s = copy-cond (eqb x y) _ s
-  next-copy (RStore i y v) s = copy-cond (eqb x y) _ s
-  next-copy (MStore i y v) s = either (Copies (s .copy)) (eqb x y) refl refl
-  next-copy (Load i y v) s = either (Copies (s .copy)) (eqb x y) refl refl
-  next-copy (LFlush i y) s = either (Copies (s .copy)) (eqb x y) refl refl
-  next-copy (RFlush i y) s = either (Copies (s .copy)) (eqb x y) refl refl
-  next-copy (Crash i) s = refl
+-- The value of the copies after an event depends on their value alone.
+pub copy-left : (k : Site) (e : Event) (s : Local) → effect k (event e) s .copy ≡ copyLeft (s .copy) e
+unfolding effect
+copy-left k (LStore i y v) s = refl
+copy-left k (RStore i y v) s = refl
+copy-left k (MStore i y v) s = refl
+copy-left k (Load i y v) s = refl
+copy-left k (LFlush i y) s = refl
+copy-left k (RFlush i y) s = refl
+copy-left k (Crash i) s = refl
 
-  -- An event by one of machines 1 to 6 keeps codes below 64.
+-- An event by one of machines 1 to 6 keeps codes below 64.
+pub effect-fits : (k : Site) → OneToSix (k .owner) → (e : Event) → OneToSix (machineOf e) → (s : Local)
+    → Fits s → Fits (effect k (event e) s)
+unfolding effect
+effect-fits k own (LStore i y v) o s h = insert-fits i 0 o (omega arith)
+effect-fits k own (RStore i y v) o s h = insert-fits (k .owner) 0 own (omega arith)
+effect-fits k own (MStore i y v) o s h = omega arith
+effect-fits k own (Load i y v) o s h =
+    either (λ (c : ℕ). c < 64) (eqb (s .code) 0) (omega arith) (insert-fits i (s .code) o h)
+effect-fits k own (LFlush i y) o s h = h
+effect-fits k own (RFlush i y) o s h = h
+effect-fits k own (Crash i) o s h = lt-of-le-of-lt (remove-le i (s .code)) h
+
+module _ (sys : Topology) (x : Location) where
+  -- The value of the copies of x after an event, and that its code stays below 64.
+  pub next-copy : (e : Event) (s : Local) → nextAt sys x (event e) s .copy ≡ copyAfter x (s .copy) e
+  unfolding nextAt concerns copyAfter
+  next-copy e s =
+      copy-cond (eventAt x e) _ s
+      ∙ ap (λ (v : Value). cond (eventAt x e) v (s .copy)) (copy-left (siteOf sys x) e s)
+
   pub next-fits : OneToSix (owner sys x) → (e : Event) → OneToSix (machineOf e) → (s : Local)
       → Fits s → Fits (nextAt sys x (event e) s)
-  unfolding nextAt concerns eventAt effect
-  next-fits k (LStore i y v) o s h = either Fits (eqb x y) (insert-fits i 0 o (omega arith)) h
-  next-fits k (RStore i y v) o s h = either Fits (eqb x y) (insert-fits (owner sys x) 0 k (omega arith)) h
-  next-fits k (MStore i y v) o s h = either Fits (eqb x y) (omega arith) h
-  next-fits k (Load i y v) o s h =
-      either Fits (eqb x y)
-      (either (λ (c : ℕ). c < 64) (eqb (s .code) 0) (omega arith) (insert-fits i (s .code) o h))
-      h
-  next-fits k (LFlush i y) o s h = either Fits (eqb x y) h h
-  next-fits k (RFlush i y) o s h = either Fits (eqb x y) h h
-  next-fits k (Crash i) o s h = lt-of-le-of-lt (remove-le i (s .code)) h
+  unfolding nextAt concerns siteOf
+  next-fits own e o s h = either Fits (eventAt x e) (effect-fits (siteOf sys x) own e o s h) h
 
 -- An event that does not concern x changes no copies.
 pub copy-elsewhere : (x : Location) (u : Value) (e : Event) → T (not (eventAt x e)) → copyAfter x u e ≡ u
-unfolding eventAt copyAfter
-copy-elsewhere x u (LStore i y v) t = rw (not→false {b = eqb x y} t)
-copy-elsewhere x u (RStore i y v) t = rw (not→false {b = eqb x y} t)
-copy-elsewhere x u (MStore i y v) t = refl
-copy-elsewhere x u (Load i y v) t = refl
-copy-elsewhere x u (LFlush i y) t = refl
-copy-elsewhere x u (RFlush i y) t = refl
-copy-elsewhere x u (Crash i) t = refl
+unfolding copyAfter
+copy-elsewhere x u e t = rw (not→false {b = eventAt x e} t)
 
-module _ (site : Site) (e : Event) (u : Value) (rest : Row) where
+-- Nor does a load.
+pub copy-load : (x : Location) (u : Value) (i : Machine) (y : Location) (v : Value) → copyAfter x u (Load i y v) ≡ u
+unfolding copyAfter effect
+copy-load x u i y v = either (λ (w : Value). w ≡ u) (eventAt x (Load i y v)) refl refl
+
+-- One that does leaves what its effect leaves.
+pub copy-here : (x : Location) (u : Value) (e : Event) → T (eventAt x e) → copyAfter x u e ≡ copyLeft u e
+unfolding copyAfter
+copy-here x u e t = rw (T→true {b = eventAt x e} t)
+
+-- A site that describes its location has its owner and its initial value.
+pub owned : {sys : Topology} {s : site.Site} → Describes sys s → owner sys (s .location .0) ≡ s .owner .0
+unfolding siteOf
+owned d = ap (λ (k : Site). k .owner) (d .here)
+
+pub begins : {sys : Topology} {s : site.Site} → Describes sys s → initial sys (s .location .0) ≡ s .initial
+unfolding siteOf
+begins d = ap (λ (k : Site). k .initial) (d .here)
+
+-- The owner is one of machines 1 to 6.
+pub owner-six : {sys : Topology} {s : site.Site} → Describes sys s → OneToSix (owner sys (s .location .0))
+owner-six d = rw (owned d) (d .machine)
+
+module _ (site : site.Site) (e : Event) (u : Value) (rest : Row) where
   -- The row `inner` before an event of the location, closed under the gap.
   pub stepped : (inner row : Row) → OneToSix (machineOf e) → T (eventAt (site .location .0) e)
-      → ((sys : Topology) → Describes sys site
-      → RowOf (λ c m. Line sys (site .location .0) e u rest c m) inner)
+      → RowOf (λ c m. Line (siteMeant site) e u rest c m) inner
       → Gap (site .owner .0) u inner row → Closed u row
       → Stepped site e u rest row
   stepped inner row o t line gap closed = record { closed = closed; right = right }
@@ -91,12 +117,12 @@ module _ (site : Site) (e : Event) (u : Value) (rest : Row) where
           → Right sys (site .location .0) (e ∷ es) u row
       right sys d es r =
           let x = site .location .0 in
-          let own : OneToSix (owner sys x) = rw (d .owned) (d .machine) in
+          let own = owner-six d in
           right-cons sys x (own .0) (own .1) e es u (copyAfter x u e) rest inner row
           (λ s q. next-copy sys x e s ∙ ap (λ (w : Value). copyAfter x w e) q)
           (next-fits sys x own e o) r
-          (before-line sys x e u rest inner t (line sys d))
-          (rw (d .owned) gap)
+          (before-line sys x e u rest inner t (rw (d .here) line))
+          (rw (owned d) gap)
 
   -- An event elsewhere.
   pub skipped : T (not (eventAt (site .location .0) e)) → Closed (copyAfter (site .location .0) u e) rest

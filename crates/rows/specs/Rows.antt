@@ -6,7 +6,7 @@ use mathlib.Core.Logic.{_≢_, _⊎_, _↔_}
 use mathlib.Core.List.{List}
 use lib.Dec.{T}
 use Rattle.model.specs.Cxl0.{Machine, Location, Value, Topology, Event, event}
-use Rattle.model.specs.OneLocation.{Local, possibleAt, nextAt, HasRunAt, Reaches}
+use Rattle.model.specs.OneLocation.{Local, Site, enabledAt, effect, possibleAt, nextAt, HasRunAt, Reaches}
 use Rattle.masks.specs.Sets.{In, everyCode}
 use Rattle.rows.specs.declared.Row.{Row}
 
@@ -41,6 +41,13 @@ Right sys x es u row = (c m : ℕ) → c < 64 → HasRunAt sys x es (state c u m
 -- If a write-back leads into the row, so does every code that has a copy, whatever the memory.
 abbrev pub Closed : Value → Row → Type 0
 Closed u row = Fine row 0 u → (c : ℕ) → c < 64 → c ≢ 0 → In c (row .any)
+
+-- With code c and memory value m, where copies have the value u, an event of the site is possible and leads into the
+-- row `rest`.
+abbrev pub Line : Site → Event → Value → Row → ℕ → Value → Type 0
+Line k e u rest c m =
+    T (enabledAt k (event e) (state c u m))
+    × Fine rest (effect k (event e) (state c u m) .code) (effect k (event e) (state c u m) .memory)
 
 -- The row has exactly the states in which the event is possible and after which the row `rest` has the state.
 abbrev pub Before : Topology → Location → Event → Value → Row → Row → Type 0

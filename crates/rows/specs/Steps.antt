@@ -2,7 +2,7 @@
 use mathlib.Core.List.{List, _∷_}
 use Rattle.model.specs.Cxl0.{Topology, Event, Value}
 use Rattle.rows.specs.declared.Row.{Row}
-use Rattle.rows.specs.declared.Site.{Site}
+use Rattle.entries.specs.declared.Site.{Site}
 use Rattle.rows.specs.Rows.{Right, Closed}
 use Rattle.rows.specs.Sites.{Describes, copyAfter}
 

@@ -1,10 +1,11 @@
-// Rows, line by line of the table of specs/Lines.antt. With `rest` the row after an event, a line's call
-// gives the row before it, and `gap_row` closes that under the silent steps of the gap before the event.
+// Rows, line by line of the table that `row_before` has. With `rest` the row after an event, a line's call gives the row
+// before it, and `gap_row` closes that under the silent steps of the gap before the event.
 //
 // Internal: only crates of this project call it, and they meet what it requires. A machine's number is 1
 // to 6, a code is below 64, `rest` is closed, and an event is known: its operation is 1 LStore, 2 RStore, 3 MStore,
 // 4 Load, 5 LFlush, 6 RFlush or 7 crash. The reader has refused every other number, so that no event comes to the arms
 // of these, and any value will do there: it is one that takes no test of its own.
+use entries::Site;
 use masks::all;
 use masks::all_but_empty;
 use masks::alone;
@@ -15,20 +16,21 @@ use masks::leading;
 use masks::losing;
 use masks::single;
 use model::Event;
-use model::Location;
 use model::Machine;
 ghost use mathlib.Core.Path.{_≡_};
 ghost use mathlib.Core.Bool.{true, cond, not};
 ghost use mathlib.Core.Logic.{_↔_, _≢_};
 ghost use lib.Dec.{T};
 ghost use Prim.Native.Nat.{ℕ, _<_};
-ghost use Rattle.model.specs.Cxl0.{Topology, Load};
+ghost use Rattle.model.specs.Cxl0.{Load};
 ghost use Rattle.model.specs.Sharers.{has, insert, remove};
+ghost use Rattle.model.specs.OneLocation;
 ghost use Rattle.model.specs.OneLocation.{eventAt};
+ghost use Rattle.model.specs.Meaning.{meant};
 ghost use Rattle.masks.specs.Sets.{In, Exactly, OneToSix};
-ghost use Rattle.rows.specs.Rows.{Fine, Empty, anyRow, lastRow, RowOf, Closed, Gap};
-ghost use Rattle.rows.specs.Lines.{Line};
-ghost use Rattle.rows.specs.Sites.{meant, Known, Describes, copyAfter};
+ghost use Rattle.entries.specs.Entries.{siteMeant};
+ghost use Rattle.rows.specs.Rows.{Fine, Empty, anyRow, lastRow, RowOf, Closed, Line, Gap};
+ghost use Rattle.rows.specs.Sites.{Known, copyAfter};
 ghost use Rattle.rows.specs.Steps.{Stepped};
 
 // From which states the rest of a log can be finished, where copies have one given value: codes of `any` with every
@@ -37,14 +39,6 @@ pub struct Row {
     pub any: u64,
     pub one: u64,
     pub value: u32,
-}
-
-// What the search knows of a location.
-pub struct Site {
-    pub location: Location,
-    pub owner: Machine,
-    pub volatile: bool,
-    pub initial: u32,
 }
 
 // The set where the test holds, else no code.
@@ -142,8 +136,7 @@ fn load_copies_row(rest: Row, i: Machine) -> Row
 fn load_row(rest: Row, i: Machine, u: u32, v: u32) -> Row
     requires { ⌜ OneToSix (i .0) ⌝ }
     requires { ⌜ Closed u rest ⌝ }
-    ensures { λ r. ⌜ ((sys : Topology) (x y : ℕ)
-        → RowOf (λ c m. Line sys x (Load (i .0) y v) u rest c m) r) ⌝ }
+    ensures { λ r. ⌜ ((k : OneLocation.Site) (x : ℕ) → RowOf (λ c m. Line k (Load (i .0) x v) u rest c m) r) ⌝ }
 {
     if fine(rest, 0, v) {
         return Row {
@@ -214,45 +207,12 @@ pub fn gap_row(owner: Machine, u: u32, inner: Row) -> Row
 
 // The event is one of the site's location, or a crash.
 pub fn concerned(site: Site, e: Event) -> bool
-    requires { ⌜ Known e ⌝ }
     ensures { λ r. ⌜ r ≡ eventAt (site .location .0) (meant e) ⌝ }
 {
     let operation = e.operation;
-    let own = site.location.0 == e.location.0;
     match operation {
-        1 => own,
-        2 => own,
-        3 => own,
-        4 => own,
-        5 => own,
-        6 => own,
-        7 => true,
-        0 => true,
-        8..=255 => true,
-    }
-}
-
-// The value of the copies after an event, when it was u before.
-pub fn copy_after(site: Site, u: u32, e: Event) -> u32
-    requires { ⌜ Known e ⌝ }
-    ensures { λ r. ⌜ r ≡ copyAfter (site .location .0) u (meant e) ⌝ }
-{
-    let operation = e.operation;
-    let stored = if site.location.0 == e.location.0 {
-        e.value
-    } else {
-        u
-    };
-    match operation {
-        1 => stored,
-        2 => stored,
-        3 => u,
-        4 => u,
-        5 => u,
-        6 => u,
-        7 => u,
-        0 => u,
-        8..=255 => u,
+        1..=6 => site.location.0 == e.location.0,
+        _ => true,
     }
 }
 
@@ -261,8 +221,7 @@ pub fn row_before(site: Site, e: Event, u: u32, rest: Row) -> Row
     requires { ⌜ OneToSix (site .owner .0) ⌝ }
     requires { ⌜ Known e ⌝ }
     requires { ⌜ Closed (copyAfter (site .location .0) u (meant e)) rest ⌝ }
-    ensures { λ r. ⌜ ((sys : Topology) → Describes sys site
-        → RowOf (λ c m. Line sys (site .location .0) (meant e) u rest c m) r) ⌝ }
+    ensures { λ r. ⌜ RowOf (λ c m. Line (siteMeant site) (meant e) u rest c m) r ⌝ }
 {
     let operation = e.operation;
     let i = e.machine;

@@ -1,54 +1,60 @@
 -- `rows::row_before` meets its contract: each arm is a line of the table.
 use borrow.Author.Needs.{needs}
 use native.Mathlib.Omega.{arith}
+use Rattle.model.specs.Cxl0.{crashes}
+use Rattle.model.specs.OneLocation.{enabledAt, effect}
 use Rattle.model.specs.Operations.{eventOf}
-use Rattle.rows.specs.Sites.{copyAfter}
-use Rattle.rows.proofs.Numbered.{operation-range, no-other}
+use Rattle.model.proofs.Operations.{operation-range, no-other}
+use Rattle.entries.specs.Entries.{siteMeant}
+use Rattle.rows.proofs.RowSteps.{copy-load}
+use Rattle.rows.proofs.Lines.{line-any, line-none}
 use Rattle.rows.proofs.row_before.Statement.{statement}
 use Rattle.rows.proofs.row_before.Tie as tie
 
 load-row-requires : tie.Need-load-row-requires
-unfolding eventOf copyAfter
+unfolding eventOf
 load-row-requires c κs =
-    let pre = c .before .before .pre in
-    (pre .1 .0 .machine, rw (c .match .keys4) at (pre .1 .1))
+    let start = c .before .before in
+    let e = start .args .e in
+    let copies = copy-load (start .args .site .location .0) (start .args .u) (e .machine .0) (e .location .0) (e .value) in
+    (start .pre .1 .0 .machine, rw (c .match .keys4, copies) at (start .pre .1 .1))
 
 returns : tie.Need-returns
-unfolding eventOf
-returns c sys d =
+unfolding eventOf enabledAt effect
+returns c =
     let key = c .before .before .match .keys1 in
-    rw key (rw (c .before .alone .ensures .0) at (c .store-row .ensures))
+    let row = rw (c .before .alone .ensures .0) at (c .store-row .ensures) in
+    rw key (λ d m h. line-any (row d m h))
 
 returns-2 : tie.Need-returns-2
-unfolding eventOf
-returns-2 c sys d =
+unfolding eventOf enabledAt effect
+returns-2 c =
     let key = c .before .before .match .keys2 in
-    rw (key, d .owned) (rw (c .before .alone2 .ensures .0) at (c .store-row2 .ensures))
+    let row = rw (c .before .alone2 .ensures .0) at (c .store-row2 .ensures) in
+    rw key (λ d m h. line-any (row d m h))
 
 returns-3 : tie.Need-returns-3
-unfolding eventOf
-returns-3 c sys d = rw (c .before .match .keys3) (c .m-store-row .ensures)
+unfolding eventOf enabledAt effect
+returns-3 c = rw (c .before .match .keys3) (λ d m h. line-any (c .m-store-row .ensures d m h))
 
 returns-4 : tie.Need-returns-4
 unfolding eventOf
-returns-4 c sys d =
+returns-4 c =
     let a = c .before .before .before .args in
-    rw (c .before .match .keys4) (c .load-row .ensures sys (a .site .location .0) (a .e .location .0))
+    rw (c .before .match .keys4) (c .load-row .ensures (siteMeant (a .site)) (a .e .location .0))
 
 returns-5 : tie.Need-returns-5
-unfolding eventOf
-returns-5 c sys d = rw (c .before .match .keys5) (c .l-flush-row .ensures)
+unfolding eventOf enabledAt effect
+returns-5 c = rw (c .before .match .keys5) (c .l-flush-row .ensures)
 
 returns-6 : tie.Need-returns-6
-unfolding eventOf
-returns-6 c sys d = rw (c .before .match .keys6) (c .r-flush-row .ensures)
+unfolding eventOf enabledAt effect
+returns-6 c = rw (c .before .match .keys6) (λ d m h. line-none d (c .r-flush-row .ensures d m h))
 
 returns-7 : tie.Need-returns-7
-unfolding eventOf
-returns-7 c sys d =
-    let here = c .before .before .before .before in
-    let i = here .before .before .args .e .machine .0 in
-    rw (here .match .keys7, d .cleared i, d .begins) (c .crash-row .ensures)
+unfolding eventOf enabledAt effect crashes
+returns-7 c =
+    rw (c .before .before .before .before .match .keys7) (λ d m h. line-any (c .crash-row .ensures d m h))
 
 -- No operation has another number.
 returns-8 : tie.Need-returns-8

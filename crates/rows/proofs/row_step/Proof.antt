@@ -3,8 +3,9 @@ use borrow.Author.Needs.{needs}
 use mathlib.Core.Path.{sym, _∙_}
 use Rattle.model.proofs.Tests.{true→T, false→not}
 use Rattle.masks.specs.Sets.{OneToSix}
-use Rattle.rows.specs.Sites.{meant, machineOf}
-use Rattle.rows.proofs.Numbered.{machine-of}
+use Rattle.model.specs.OneLocation.{machineOf}
+use Rattle.model.specs.Meaning.{meant}
+use Rattle.model.proofs.Operations.{machine-of}
 use Rattle.rows.proofs.RowSteps.{stepped, skipped}
 use Rattle.rows.proofs.row_step.Statement.{statement}
 use Rattle.rows.proofs.row_step.Tie as tie
