@@ -11,7 +11,8 @@ use lib.Seq.{drop-cons}
 use Rattle.model.specs.Cxl0.{Location, Event, LStore, RStore, MStore, Load, LFlush, RFlush, Crash}
 use Rattle.model.specs.OneLocation.{eventAt}
 use Rattle.model.proofs.Tests.{and-i}
-use Rattle.events.specs.Thinning.{ownEvent, isCrash, noneOwn, Thins, keep, skip, Leads, begin, before}
+use Rattle.model.specs.OneLocation.{ownEvent, isCrash}
+use Rattle.events.specs.Thinning.{noneOwn, Thins, keep, skip, Leads, begin, before}
 use Rattle.events.proofs.Places.{atPlace}
 
 -- An event that names x is no crash.

@@ -16,7 +16,8 @@ use Rattle.model.proofs.Tests.{by-test, T→true, not→false}
 use Rattle.scratch.specs.Layout.{EVENTS}
 use Rattle.scratch.specs.Words.{eventsFrom, eventsIn}
 use Rattle.events.specs.declared.picking.Pick.{Pick}
-use Rattle.events.specs.Thinning.{ownEvent, isCrash, Thins, rest, Leads, begin}
+use Rattle.model.specs.OneLocation.{ownEvent, isCrash}
+use Rattle.events.specs.Thinning.{Thins, rest, Leads, begin}
 use Rattle.events.specs.Linking.{headOf, operationIn, nextOwnIn, nextCrashIn, placesFrom, placesIn}
 use Rattle.events.specs.Linking.{firstFrom, Linked}
 use Rattle.events.specs.Picking.{copied, nearer, pickFrom, pickAfter}

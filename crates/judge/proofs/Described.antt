@@ -11,7 +11,7 @@ use Rattle.model.specs.declared.Topology as topology
 use Rattle.model.proofs.Tests.{and-i, and-l, and-r}
 use Rattle.model.proofs.Limits.{within, listed}
 use Rattle.masks.specs.Sets.{OneToSix}
-use Rattle.rows.specs.declared.Site.{Site}
+use Rattle.entries.specs.declared.Site.{Site}
 use Rattle.rows.specs.Sites.{Describes}
 
 -- A machine of a system within the limits is one of six.

@@ -10,7 +10,7 @@ use lib.Seq.{slice, take-add, drop-at, drop-append-le, length-take-le, length-sl
 use lib.Seq.{getD-take, getD-drop}
 use Rattle.model.specs.Schedule.{Step}
 use Rattle.model.specs.Words.{stepOfWord}
-use Rattle.rows.specs.declared.Site.{Site}
+use Rattle.entries.specs.declared.Site.{Site}
 use Rattle.scratch.specs.Layout.{EVENTS, ROWS, STEPS, MOST, OnlyIn, LOG}
 use Rattle.scratch.specs.Words.{eventsIn, countOf, wordsAt}
 use Rattle.walking.specs.Walks.{Schedules}

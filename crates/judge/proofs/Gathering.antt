@@ -15,7 +15,7 @@ use Rattle.model.specs.Schedule.{Step, weave, inOrder}
 use Rattle.model.specs.OneLocation.{startAt, runsAt}
 use Rattle.model.specs.Sums.{sum}
 use Rattle.model.proofs.Weaving.{inOrder-cons}
-use Rattle.rows.specs.declared.Site.{Site}
+use Rattle.entries.specs.declared.Site.{Site}
 use Rattle.walking.specs.Walks.{Placed, Schedules}
 use Rattle.search.specs.Rising.{select}
 use Rattle.search.specs.Ordering.{atLocation}

@@ -12,8 +12,9 @@ use Rattle.model.specs.Operations.{isOperation}
 use Rattle.model.proofs.Tests.{and-l, and-r}
 use Rattle.model.proofs.Expand.{machine-bounds}
 use Rattle.masks.specs.Sets.{OneToSix}
-use Rattle.rows.specs.Sites.{Known, machineOf}
-use Rattle.rows.proofs.Numbered.{machine-of}
+use Rattle.model.specs.OneLocation.{machineOf}
+use Rattle.rows.specs.Sites.{Known}
+use Rattle.model.proofs.Operations.{machine-of}
 use Rattle.scratch.specs.Words.{eventIn, eventsFrom, eventsIn, structIn}
 use Rattle.scratch.proofs.Events.{meant-read}
 

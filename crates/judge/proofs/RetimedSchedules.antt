@@ -14,9 +14,10 @@ use Rattle.model.specs.Schedule.{Step, silentOf, steps, weaveFrom, weave, inOrd
 use Rattle.model.specs.OneLocation.{Local, possibleAt, nextAt, startAt, runsAt}
 use Rattle.model.proofs.Tests.{and-l, and-r}
 use Rattle.model.proofs.Weaving.{inOrder-cons, weave-due, weave-event}
-use Rattle.rows.specs.declared.Site.{Site}
+use Rattle.entries.specs.declared.Site.{Site}
 use Rattle.walking.specs.Walks.{Placed, Schedules}
-use Rattle.events.specs.Thinning.{ownEvent, noneOwn, Thins, rest, keep, skip, Leads, begin, before}
+use Rattle.model.specs.OneLocation.{ownEvent}
+use Rattle.events.specs.Thinning.{noneOwn, Thins, rest, keep, skip, Leads, begin, before}
 use Rattle.events.specs.Thinning.{retimed}
 use Rattle.judge.proofs.Thinning.{elsewhere-next, elsewhere-possible, foreign-next, foreign-possible}
 use Rattle.judge.proofs.KeptEvents.{leads-places, leads-rise, leads-allowance, leads-named}

@@ -16,7 +16,8 @@ use Rattle.model.proofs.Tests.{true→T, not→false, and-l, and-r}
 use Rattle.model.proofs.Sharers.{remove-le}
 use Rattle.model.proofs.SilentSteps.{has→some}
 use Rattle.model.proofs.Gaps.{has-run-nil, after-gap, has-run-cons}
-use Rattle.events.specs.Thinning.{ownEvent, noneOwn, Thins, rest, keep, skip, Leads, begin, before}
+use Rattle.model.specs.OneLocation.{ownEvent}
+use Rattle.events.specs.Thinning.{noneOwn, Thins, rest, keep, skip, Leads, begin, before}
 
 -- ---- events elsewhere
 

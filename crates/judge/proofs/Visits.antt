@@ -17,7 +17,7 @@ use Rattle.model.specs.Words.{stepOfWord}
 use Rattle.model.specs.declared.Topology as topology
 use Rattle.model.proofs.Gaps.{has-run-nil}
 use Rattle.model.proofs.Limits.{within, listed-below}
-use Rattle.rows.specs.declared.Site.{Site}
+use Rattle.entries.specs.declared.Site.{Site}
 use Rattle.rows.specs.Sites.{Describes}
 use Rattle.scratch.specs.Layout.{EVENTS, ROWS, STEPS, WORDS, OnlyIn, LOG}
 use Rattle.scratch.specs.Words.{eventsFrom, eventsIn, wordsAt, stepsAt}

@@ -1,7 +1,7 @@
 // What the search knows of a location, from the topology.
 use model::Location;
 use model::Topology;
-use rows::Site;
+use entries::Site;
 ghost use mathlib.Core.Path.{_≡_};
 ghost use lib.Dec.{T};
 ghost use Rattle.model.specs.Cxl0.{isLocation};

@@ -8,8 +8,10 @@ use lib.ListN.{length, take, drop}
 use Rattle.model.specs.Cxl0.{Location, Value, Event}
 use Rattle.model.specs.declared.Event as event
 use Rattle.masks.specs.Sets.{OneToSix}
-use Rattle.rows.specs.Sites.{meant, Known, machineOf, copyAfter, copyFrom}
-use Rattle.rows.proofs.Numbered.{machine-of}
+use Rattle.model.specs.Meaning.{meant}
+use Rattle.model.specs.OneLocation.{machineOf}
+use Rattle.rows.specs.Sites.{Known, copyAfter, copyFrom}
+use Rattle.model.proofs.Operations.{machine-of}
 use Rattle.scratch.specs.Layout.{EVENTS, ROWS, MOST, OnlyIn}
 use Rattle.scratch.specs.Words.{eventIn, eventsFrom, eventsIn, structIn}
 use Rattle.scratch.proofs.Frames.{getD-below}

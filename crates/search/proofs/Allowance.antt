@@ -8,7 +8,7 @@ use lib.Dec.{T}
 use lib.ListN.{length}
 use Rattle.model.specs.Cxl0.{Location, Topology, isMachine, owner, Event, Action, event, silent}
 use Rattle.model.specs.Cxl0.{named, events, silents, count, isStore, isLoad}
-use Rattle.model.specs.OneLocation.{Local, eventAt, silentAt, concerns, enabledAt, effect, possibleAt, nextAt}
+use Rattle.model.specs.OneLocation.{Local, siteOf, eventAt, silentAt, concerns, enabledAt, effect, possibleAt, nextAt}
 use Rattle.model.specs.OneLocation.{runsAt, afterAt, ownSteps}
 use Rattle.model.proofs.Tests.{and-l, and-r, T→true}
 use Rattle.model.proofs.Merge.{each}
@@ -44,8 +44,8 @@ module _ (sys : Topology) (x : Location) (o : T (isMachine sys (owner sys x))) w
   unfolding possibleAt nextAt
   rank-next a s n p = go (concerns x a) p
     where
-      go : (b : Bool) → T (cond b (enabledAt sys x a s) true)
-          → rank sys x (cond b (effect sys x a s) s) + cond b (loss a) 0 ≤ rank sys x s + cond b (gain a) 0
+      go : (b : Bool) → T (cond b (enabledAt (siteOf sys x) a s) true)
+          → rank sys x (cond b (effect (siteOf sys x) a s) s) + cond b (loss a) 0 ≤ rank sys x s + cond b (gain a) 0
       go true p = rank-step sys x a s o n p
       go false p = omega arith
 

@@ -9,7 +9,7 @@ use mathlib.Core.List.{List}
 use lib.ListN.{drop}
 use Rattle.model.specs.Cxl0.{Location}
 use Rattle.rows.specs.declared.Row.{Row}
-use Rattle.rows.specs.declared.Site.{Site}
+use Rattle.entries.specs.declared.Site.{Site}
 use Rattle.rows.specs.Rows.{lastRow}
 use Rattle.rows.specs.Sites.{copyAfter}
 use Rattle.rows.specs.Steps.{Stepped}

@@ -11,23 +11,24 @@ use mathlib.Core.List.{List, [], _∷_, append-nil}
 use lib.Dec.{T}
 use Rattle.model.specs.Cxl0.{Location, Value, Topology, owner, Event, event}
 use Rattle.model.specs.Schedule.{steps}
-use Rattle.model.specs.OneLocation.{startAt, eventAt, possibleAt}
-use Rattle.masks.specs.Sets.{OneToSix}
-use Rattle.rows.specs.declared.Site.{Site}
+use Rattle.model.specs.OneLocation.{startAt, eventAt}
+use Rattle.entries.specs.declared.Acted.{Acted}
+use Rattle.entries.specs.declared.Site.{Site}
 use Rattle.rows.specs.Rows.{state}
-use Rattle.rows.specs.Sites.{Known, Describes, machineOf, copyAfter, copyFrom}
-use Rattle.rows.proofs.RowSteps.{next-fits}
+use Rattle.rows.specs.Sites.{Known, Describes, copyAfter, copyFrom}
+use Rattle.rows.proofs.RowSteps.{begins}
 use Rattle.scratch.specs.declared.Waypoint.{Waypoint}
 use Rattle.scratch.specs.Layout.{ROWS, STEPS, WAYPOINTS, LOG, MOST, OnlyIn}
 use Rattle.scratch.specs.Words.{eventIn, eventsFrom, eventsIn, copyIn, waypointIn, structIn, CopyPut, WaypointPut}
 use Rattle.walking.specs.Passes.{Copies, Ready}
-use Rattle.walking.specs.Places.{codeAfter, placeAfter}
+use Rattle.walking.specs.Acting.{Acts}
 use Rattle.walking.specs.Trails.{RunsTo}
 use Rattle.scratch.proofs.Frames.{only-then, only-wider, getD-below}
 use Rattle.scratch.proofs.Events.{events-suc, events-length, copies-suc}
-use Rattle.scratch.proofs.Events.{struct-same, event-same, events-same, known-machine}
+use Rattle.scratch.proofs.Events.{struct-same, event-same, events-same}
 use Rattle.walking.proofs.Trails.{runsTo-none, runsTo-cons}
-use Rattle.walking.proofs.Turns.{next-state, elsewhere-runs}
+use Rattle.walking.proofs.Acting.{acts-next, acts-can}
+use Rattle.walking.proofs.Turns.{elsewhere-runs}
 use Rattle.search.specs.declared.explaining.Onward.{Onward}
 use Rattle.search.specs.Paths.{Led, Path, more, Based, Kept, Retraceable, Retraced}
 use Rattle.search.specs.Paths.{Resumable, Resumed, Stuck, Continuable, Onwards}
@@ -87,7 +88,7 @@ module _ {s : Site} {t : ℕ} {p : Waypoint} {w : List ℕ} (stuck : Stuck s t p
       λ i. record {
         code = first i .code;
         copy = stuck .ready .copies 0 zero-le i;
-        memory = (ap (λ (q : Waypoint). q .memory) first ∙ sym (d .begins)) i;
+        memory = (ap (λ (q : Waypoint). q .memory) first ∙ sym (begins d)) i;
       }
 
   module _ {r : ℕ} {w' : List ℕ} (back : Retraced s (t + 1) w r w') where
@@ -312,30 +313,21 @@ module _ {s : Site} {t : ℕ} {p : Waypoint} {w w' : List ℕ} (go : Continuable
         went-on refl (continuable-fits go)
         (λ sys d u same. rw (← read) (elsewhere-runs sys s e away (p .code) u (p .memory)))
 
-    -- It concerns the site, and is possible where the walk stands.
-    module _ {u : Value} (copied : u ≡ copyIn w t) (here : T (eventAt (s .location .0) e))
-        (can : (sys : Topology)
-        → T (possibleAt sys (s .location .0) (event e) (state (p .code) u (p .memory)))) where
-      -- It leads to a code of six machines.
-      fits-next : codeAfter (s .owner .0) e (p .code) < 64
-      fits-next =
-          let x = s .location .0 in
-          let sys = go .system in
-          let d = go .describes in
-          let own : OneToSix (owner sys x) = rw (d .owned) (d .machine) in
-          let machine : OneToSix (machineOf e) = rw read (known-machine w t (go .known)) in
-          rw (next-state sys s d e here (p .code) u (p .memory)) at
-          (next-fits sys x own e machine (state (p .code) u (p .memory)) (continuable-fits go))
-
-      -- The walk stands where the event leads.
-      pub went-ahead : Onwards s t p w (record { found = true; waypoint = placeAfter s e p }) w'
-      went-ahead =
-          let x = s .location .0 in
-          went-on refl fits-next
-          (λ sys d v same.
-          rw (← read, same, ← copied)
-          (runsTo-cons sys x (can sys)
-          (rw (next-state sys s d e here (p .code) u (p .memory)) (runsTo-none sys x))))
+    -- It concerns the site, and is possible where the walk stands, which is then where the event leads.
+    pub went-ahead : {u : Value} → u ≡ copyIn w t → T (eventAt (s .location .0) e)
+        → {made : Acted} → Acts s e u p made → made .enabled ≡ true
+        → Onwards s t p w
+        (record {
+          found = true;
+          waypoint = record { code = made .entry .sharers; memory = made .entry .memory; end = p .end };
+        })
+        w'
+    went-ahead copied here acts can =
+        let x = s .location .0 in
+        went-on refl (acts .fits)
+        (λ sys d v same.
+        rw (← read, same, ← copied)
+        (runsTo-cons sys x (acts-can d e here acts can) (rw (acts-next d e here acts) (runsTo-none sys x))))
 
   -- The walk goes back for the event.
   pub went-otherwise : {r : Onward} {w'' : List ℕ} → Onwards s t p w' r w'' → Onwards s t p w r w''

@@ -10,7 +10,7 @@ use Rattle.model.specs.Schedule.{Step, weave}
 use Rattle.model.specs.OneLocation.{Local, HasRunAt, startAt}
 use Rattle.model.specs.Words.{stepOfWord}
 use Rattle.model.proofs.Weaving.{events-weave, silents-weave}
-use Rattle.rows.specs.declared.Site.{Site}
+use Rattle.entries.specs.declared.Site.{Site}
 use Rattle.rows.specs.Rows.{state}
 use Rattle.rows.specs.Sites.{Describes, copyFrom}
 use Rattle.scratch.specs.declared.Waypoint.{Waypoint}

@@ -9,7 +9,6 @@ pub mod Keeping
 pub mod Paths
 pub mod Resuming
 pub mod Explanations
-pub mod Possible
 pub mod Continuing
 pub mod Rising
 pub mod Ordering

@@ -10,7 +10,7 @@ use lib.ListN.{length, getD, length-append, length-map}
 use Rattle.model.specs.Cxl0.{Topology, event}
 use Rattle.model.specs.Schedule.{steps}
 use Rattle.model.specs.Words.{stepOfWord}
-use Rattle.rows.specs.declared.Site.{Site}
+use Rattle.entries.specs.declared.Site.{Site}
 use Rattle.rows.specs.Rows.{state}
 use Rattle.rows.specs.Sites.{Describes, copyFrom}
 use Rattle.scratch.specs.declared.Waypoint.{Waypoint}

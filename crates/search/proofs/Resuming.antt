@@ -9,7 +9,7 @@ use mathlib.Core.List.{List}
 use lib.ListN.{length, drop, length-map}
 use Rattle.model.specs.Cxl0.{Topology}
 use Rattle.model.specs.OneLocation.{HasRunAt}
-use Rattle.rows.specs.declared.Site.{Site}
+use Rattle.entries.specs.declared.Site.{Site}
 use Rattle.rows.specs.Rows.{state}
 use Rattle.rows.specs.Sites.{Describes, copyAfter, copyFrom}
 use Rattle.scratch.specs.declared.Waypoint.{Waypoint}

@@ -11,11 +11,12 @@ use Rattle.model.proofs.SilentSteps.{normal-form, silently-bound}
 use Rattle.model.proofs.Gaps.{has-run-cons}
 use Rattle.masks.specs.Sets.{OneToSix}
 use Rattle.rows.specs.declared.Row.{Row}
-use Rattle.rows.specs.declared.Site.{Site}
+use Rattle.entries.specs.declared.Site.{Site}
 use Rattle.rows.specs.Rows.{state, Fine, Empty, lastRow}
 use Rattle.rows.specs.Steps.{Stepped}
-use Rattle.rows.specs.Sites.{Describes, machineOf, copyAfter}
-use Rattle.rows.proofs.RowSteps.{next-copy, next-fits}
+use Rattle.model.specs.OneLocation.{machineOf}
+use Rattle.rows.specs.Sites.{Describes, copyAfter}
+use Rattle.rows.proofs.RowSteps.{next-copy, next-fits, owner-six}
 use Rattle.scratch.specs.Layout.{ROWS, STEPS, WAYPOINTS, WORDS, MOST, OnlyIn}
 use Rattle.scratch.specs.Words.{eventIn, eventsIn, copyIn, waypointIn, RowPut}
 use Rattle.walking.specs.Passes.{OnlyRows}
@@ -138,7 +139,7 @@ module _ {s : Site} {m : ℕ} {w : List ℕ} (able : Retraceable s m w) (sys : T
   run-leads run zero h = (waypointIn w 0 .code, waypointIn w 0 .memory, able .fits 0 (able .some), run)
   run-leads run (suc d) h =
       let x = s .location .0 in
-      let own : OneToSix (owner sys x) = rw (a .owned) (a .machine) in
+      let own = owner-six a in
       let f = run-leads run d (omega arith) in
       let r = rw (events-drop w d m h) at (f .3) in
       let g = run-passes sys x own (eventIn w d) (drop (suc d) (eventsIn w m)) (copyIn w d)

@@ -20,9 +20,10 @@ use Rattle.model.proofs.Expand.{start-inRange}
 use Rattle.model.proofs.Split.{own-named}
 use Rattle.model.proofs.Weaving.{events-weave, silents-weave}
 use Rattle.model.proofs.Potential.{rank-start}
-use Rattle.rows.specs.declared.Site.{Site}
+use Rattle.entries.specs.declared.Site.{Site}
 use Rattle.rows.specs.Rows.{state}
 use Rattle.rows.specs.Sites.{Describes}
+use Rattle.rows.proofs.RowSteps.{begins}
 use Rattle.walking.specs.Trails.{stepAt, RunsTo}
 use Rattle.walking.specs.Walks.{Placed, Schedules}
 use Rattle.walking.specs.Allowance.{allowance}
@@ -78,7 +79,7 @@ leading-none s =
       own = λ p i. absurd (List·Memᴰ·not-nil i);
       order = tt;
       early = λ p i. absurd (List·Memᴰ·not-nil i);
-      runs = λ sys d. rw (d .begins) (runsTo-none sys (s .location .0));
+      runs = λ sys d. rw (begins d) (runsTo-none sys (s .location .0));
     }
 
 -- One event more, with the steps of the machines before it.

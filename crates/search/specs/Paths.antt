@@ -11,7 +11,7 @@ use Rattle.model.specs.Cxl0.{Topology, Event}
 use Rattle.model.specs.Schedule.{Step, weave, inOrder}
 use Rattle.model.specs.OneLocation.{Local, HasRunAt, startAt}
 use Rattle.model.specs.Words.{stepOfWord}
-use Rattle.rows.specs.declared.Site.{Site}
+use Rattle.entries.specs.declared.Site.{Site}
 use Rattle.rows.specs.Rows.{state}
 use Rattle.rows.specs.Sites.{Known, Describes, copyFrom}
 use Rattle.scratch.specs.declared.Waypoint.{Waypoint}

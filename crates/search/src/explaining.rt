@@ -5,10 +5,8 @@
 // Callers see to it that the scratch area has at least 4,096 words and at most 129 events, and that these are known, so
 // that none comes to the arms of refused operations.
 use crate::backtracking::retrace;
-use model::Event;
-use rows::Site;
+use entries::Site;
 use rows::concerned;
-use rows::copy_after;
 use scratch::STEPS;
 use scratch::Waypoint;
 use scratch::get_copy;
@@ -16,18 +14,10 @@ use scratch::get_event;
 use scratch::get_waypoint;
 use scratch::put_copy;
 use scratch::put_waypoint;
-use walking::holds;
-use walking::place_after;
+use walking::act_at;
 use walking::turn;
-ghost use Prim.Native.Nat.{ℕ, _<_};
-ghost use mathlib.Core.Path.{_≡_};
+ghost use Prim.Native.Nat.{_<_};
 ghost use mathlib.Core.Bool.{true};
-ghost use mathlib.Core.Logic.{_↔_};
-ghost use lib.Dec.{T};
-ghost use Rattle.model.specs.Cxl0.{Topology, event};
-ghost use Rattle.model.specs.OneLocation.{eventAt, possibleAt};
-ghost use Rattle.rows.specs.Rows.{state};
-ghost use Rattle.rows.specs.Sites.{meant, Known};
 ghost use Rattle.search.specs.Paths.{Resumable, Resumed, Stuck, Continuable, Onwards};
 ghost use Rattle.search.specs.Paths.{Explainable, Explained};
 
@@ -41,31 +31,6 @@ pub struct Onward {
 pub struct Found {
     pub events: usize,
     pub steps: usize,
-}
-
-// The event of the site is possible where the walk stands and copies have the value u.
-fn possible(e: Event, u: u32, p: Waypoint) -> bool
-    requires { ⌜ Known e ⌝ }
-    requires { ⌜ p .code < 64 ⌝ }
-    ensures { λ r. ⌜ ((sys : Topology) (x : ℕ) → T (eventAt x (meant e))
-        → (r ≡ true) ↔ T (possibleAt sys x (event (meant e)) (state (p .code) u (p .memory)))) ⌝ }
-{
-    let operation = e.operation;
-    match operation {
-        1 => true,
-        2 => true,
-        3 => true,
-        4 => if p.code == 0 {
-            p.memory == e.value
-        } else {
-            u == e.value
-        },
-        5 => !holds(p.code, e.machine),
-        6 => p.code == 0,
-        7 => true,
-        0 => true,
-        8..=255 => true,
-    }
 }
 
 // Walks again from the waypoint before event `from`, over the rows, to the end of the m events.
@@ -111,15 +76,22 @@ fn go_on(w: &mut [u64], site: Site, t: usize, p: Waypoint) -> Onward
     let e = get_event(&*w, t);
     let u = get_copy(&*w, t);
     put_waypoint(w, t, p);
-    put_copy(w, t + 1, copy_after(site, u, e));
     if !concerned(site, e) {
+        put_copy(w, t + 1, u);
         return Onward {
             found: true,
             waypoint: p,
         };
     }
-    if possible(e, u, p) {
-        let waypoint = place_after(site, e, p);
+    let made = act_at(site, e, u, p);
+    let after = made.entry;
+    put_copy(w, t + 1, after.copy);
+    if made.enabled {
+        let waypoint = Waypoint {
+            code: after.sharers,
+            memory: after.memory,
+            end: p.end,
+        };
         return Onward {
             found: true,
             waypoint,

@@ -7,7 +7,7 @@ use lib.Dec.{T, eqb, eqb-refl}
 use Rattle.model.specs.Cxl0.{Machine, Location, Topology, owner, Silent, Propagate, WriteBack, Action, silent}
 use Rattle.model.specs.Schedule.{silentOf, steps}
 use Rattle.model.specs.Sharers.{has}
-use Rattle.model.specs.OneLocation.{Local, silentAt, concerns, enabledAt, effect, possibleAt, nextAt}
+use Rattle.model.specs.OneLocation.{Local, silentAt, concerns, siteOf, enabledAt, effect, possibleAt, nextAt}
 use Rattle.model.specs.OneLocation.{runsAt, afterAt}
 use Rattle.model.proofs.Tests.{and-l, and-r, and-i, T→true}
 use Rattle.walking.specs.Trails.{Trail, none, moves, writes, stepAt, RunsTo}
@@ -45,8 +45,8 @@ module _ (sys : Topology) (x : Location) where
 
   -- A silent step of x in front.
   runsTo-silent : (a : Silent) {acts : List Action} {s t : Local}
-      → T (silentAt x a) → T (enabledAt sys x (silent a) s)
-      → RunsTo sys x acts (effect sys x (silent a) s) t → RunsTo sys x (silent a ∷ acts) s t
+      → T (silentAt x a) → T (enabledAt (siteOf sys x) (silent a) s)
+      → RunsTo sys x acts (effect (siteOf sys x) (silent a) s) t → RunsTo sys x (silent a ∷ acts) s t
   unfolding possibleAt nextAt concerns
   runsTo-silent a o e r =
       let here : silentAt x a ≡ true = T→true o in
@@ -55,7 +55,7 @@ module _ (sys : Topology) (x : Location) where
   -- A trail of steps of x runs at x.
   pub trail-runs : (n : ℕ) {is : List Machine} {s t : Local}
       → Trail (owner sys x) is s t → RunsTo sys x (steps (map (stepAt n x) is)) s t
-  unfolding steps silentOf silentAt enabledAt effect has
+  unfolding steps silentOf silentAt siteOf enabledAt effect has
   trail-runs n none = runsTo-none
   trail-runs n (moves {s} zero p r) = absurd (and-r (not (eqb zero (owner sys x))) (has zero (s .code)) p)
   trail-runs n (moves (suc i) p r) = runsTo-silent (Propagate (suc i) x) (eqb-refl x) p (trail-runs n r)

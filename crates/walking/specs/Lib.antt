@@ -1,5 +1,5 @@
 pub mod Passes
 pub mod Trails
 pub mod Allowance
-pub mod Places
+pub mod Acting
 pub mod Walks

@@ -8,7 +8,7 @@ use Rattle.model.specs.Cxl0.{Location, Value, Topology, Event}
 use Rattle.model.specs.OneLocation.{HasRunAt, startAt}
 use Rattle.masks.specs.Sets.{OneToSix}
 use Rattle.rows.specs.declared.Row.{Row}
-use Rattle.rows.specs.declared.Site.{Site}
+use Rattle.entries.specs.declared.Site.{Site}
 use Rattle.rows.specs.Rows.{Right, Closed}
 use Rattle.rows.specs.Sites.{Known, Describes, copyAfter, copyFrom}
 use Rattle.scratch.specs.Layout.{ROWS, STEPS, WORDS, MOST, OnlyIn}

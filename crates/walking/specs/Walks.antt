@@ -11,7 +11,7 @@ use Rattle.model.specs.Schedule.{Step, silentOf, steps, weave, inOrder}
 use Rattle.model.specs.OneLocation.{HasRunAt, startAt, runsAt}
 use Rattle.model.specs.OneLocation.{Reaches}
 use Rattle.rows.specs.declared.Row.{Row}
-use Rattle.rows.specs.declared.Site.{Site}
+use Rattle.entries.specs.declared.Site.{Site}
 use Rattle.rows.specs.Rows.{state, Fine, Right}
 use Rattle.rows.specs.Sites.{Describes, copyAfter}
 use Rattle.scratch.specs.declared.Waypoint.{Waypoint}

@@ -4,13 +4,15 @@
 // Internal: only crates of this project call it, and they meet what it requires. The rows are there, the
 // events have a run from where the walk begins, and they are known, so that none comes to the arms of refused
 // operations.
+use entries::Acted;
+use entries::Entry;
+use entries::Site;
 use masks::alone;
 use masks::lowest;
 use model::Event;
 use model::Machine;
 use moves::reach;
 use rows::Row;
-use rows::Site;
 use rows::codes;
 use rows::concerned;
 use rows::fine;
@@ -26,10 +28,11 @@ ghost use lib.ListN.{length};
 ghost use Rattle.model.specs.Sharers.{has};
 ghost use Rattle.masks.specs.Sets.{OneToSix};
 ghost use Rattle.rows.specs.Rows.{Fine};
-ghost use Rattle.rows.specs.Sites.{meant, Known};
+ghost use Rattle.model.specs.Meaning.{meant};
+ghost use Rattle.rows.specs.Sites.{Known};
 ghost use Rattle.scratch.specs.Stored.{Stored};
 ghost use Rattle.walking.specs.Trails.{FirstHolder, oneIf, givesUp, leaving, wordOf};
-ghost use Rattle.walking.specs.Places.{codeAfter, memoryAfter, placeAfter};
+ghost use Rattle.walking.specs.Acting.{Acts};
 ghost use Rattle.walking.specs.Walks.{Noted, Enters, Moved, Standing, Turned};
 
 // What stands for a write-back where a step names its machine: no machine has the number 0.
@@ -145,65 +148,19 @@ fn gap(w: &mut [u64], site: Site, t: usize, u: u32, row: Row, p: Waypoint) -> Wa
     write_back(w, site, t, u, p)
 }
 
-// The code after an event of the site.
-fn code_after(site: Site, e: Event, c: u8) -> u8
-    requires { ⌜ OneToSix (site .owner .0) ⌝ }
-    requires { ⌜ Known e ⌝ }
-    requires { ⌜ c < 64 ⌝ }
-    ensures { λ r. ⌜ r ≡ codeAfter (site .owner .0) (meant e) c ⌝ }
-{
-    let operation = e.operation;
-    let i = e.machine;
-    match operation {
-        1 => alone(i),
-        2 => alone(site.owner),
-        3 => 0,
-        4 => if c == 0 { 0 } else { c | alone(i) },
-        5 => c,
-        6 => c,
-        7 => c & !alone(i),
-        0 => c,
-        8..=255 => c,
-    }
-}
-
-// The memory value after an event of the site.
-fn memory_after(site: Site, e: Event, m: u32) -> u32
-    requires { ⌜ Known e ⌝ }
-    ensures { λ r. ⌜ r ≡ memoryAfter site (meant e) m ⌝ }
-{
-    let operation = e.operation;
-    match operation {
-        1 => m,
-        2 => m,
-        3 => e.value,
-        4 => m,
-        5 => m,
-        6 => m,
-        7 => if (site.owner.0 == e.machine.0) & site.volatile {
-            site.initial
-        } else {
-            m
-        },
-        0 => m,
-        8..=255 => m,
-    }
-}
-
-// The waypoint after an event of the site.
-pub fn place_after(site: Site, e: Event, p: Waypoint) -> Waypoint
+// What an event of the site makes of a waypoint, where copies have the value u.
+pub fn act_at(site: Site, e: Event, u: u32, p: Waypoint) -> Acted
     requires { ⌜ OneToSix (site .owner .0) ⌝ }
     requires { ⌜ Known e ⌝ }
     requires { ⌜ p .code < 64 ⌝ }
-    ensures { λ r. ⌜ r ≡ placeAfter site (meant e) p ⌝ }
+    ensures { λ r. ⌜ Acts site (meant e) u p r ⌝ }
 {
-    let code = code_after(site, e, p.code);
-    let memory = memory_after(site, e, p.memory);
-    Waypoint {
-        code: code,
-        memory: memory,
-        end: p.end,
-    }
+    let held = Entry {
+        sharers: p.code,
+        copy: u,
+        memory: p.memory,
+    };
+    held.act(site, e)
 }
 
 // One event, with the silent steps before it.
@@ -218,7 +175,13 @@ pub fn turn(w: &mut [u64], site: Site, t: usize, p: Waypoint) -> Waypoint
         // The event is read again for the table, which is quicker than handing on e.
         let row = row_before(site, get_event(&*w, t), u, rest);
         let q = gap(w, site, t, u, row, p);
-        return place_after(site, e, q);
+        let made = act_at(site, e, u, q);
+        let after = made.entry;
+        return Waypoint {
+            code: after.sharers,
+            memory: after.memory,
+            end: q.end,
+        };
     }
     p
 }
