@@ -8,35 +8,12 @@ use mathlib.Core.List.{List, _∷_}
 use lib.Dec.{T}
 use lib.ListN.{length, drop, drop-of-length-le}
 use lib.Seq.{drop-cons}
-use Rattle.model.specs.Cxl0.{Location, Event, LStore, RStore, MStore, Load, LFlush, RFlush, Crash}
+use Rattle.model.specs.Cxl0.{Location, Event, Crash}
 use Rattle.model.specs.OneLocation.{eventAt}
 use Rattle.model.proofs.Tests.{and-i}
-use Rattle.model.specs.OneLocation.{ownEvent, isCrash}
+use Rattle.model.specs.OneLocation.{ownEvent}
 use Rattle.events.specs.Thinning.{noneOwn, Thins, keep, skip, Leads, begin, before}
 use Rattle.events.proofs.Places.{atPlace}
-
--- An event that names x is no crash.
-pub own-no-crash : (x : Location) (e : Event) → T (ownEvent x e) → T (not (isCrash e))
-unfolding ownEvent isCrash
-own-no-crash x (LStore i y v) t = tt
-own-no-crash x (RStore i y v) t = tt
-own-no-crash x (MStore i y v) t = tt
-own-no-crash x (Load i y v) t = tt
-own-no-crash x (LFlush i y) t = tt
-own-no-crash x (RFlush i y) t = tt
-own-no-crash x (Crash i) t = absurd t
-
--- An event that does not name x and is no crash does not concern x.
-pub unconcerned : (x : Location) (e : Event) → T (not (ownEvent x e)) → T (not (isCrash e))
-    → T (not (eventAt x e))
-unfolding ownEvent isCrash eventAt
-unconcerned x (LStore i y v) s t = s
-unconcerned x (RStore i y v) s t = s
-unconcerned x (MStore i y v) s t = s
-unconcerned x (Load i y v) s t = s
-unconcerned x (LFlush i y) s t = s
-unconcerned x (RFlush i y) s t = s
-unconcerned x (Crash i) s t = absurd t
 
 module _ (x : Location) (es : List Event) where
   none-from : (d p : ℕ) → p + d ≡ length es

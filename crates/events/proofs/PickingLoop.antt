@@ -22,7 +22,8 @@ use Rattle.events.specs.Linking.{headOf, operationIn, nextOwnIn, nextCra
 use Rattle.events.specs.Linking.{firstFrom, Linked}
 use Rattle.events.specs.Picking.{copied, nearer, pickFrom, pickAfter}
 use Rattle.events.proofs.Places.{atPlace, First, first-of, first-next, first-later}
-use Rattle.events.proofs.Leading.{own-no-crash, unconcerned, none-own, keep-at, skip-to, lead-to}
+use Rattle.model.proofs.Locations.{own-no-crash, unconcerned}
+use Rattle.events.proofs.Leading.{none-own, keep-at, skip-to, lead-to}
 use Rattle.events.proofs.Copies.{copied-frame, copied-events, copied-places, copied-operations}
 use Rattle.events.proofs.Copies.{linked-event, linked-same}
 

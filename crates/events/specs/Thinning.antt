@@ -1,32 +1,13 @@
 -- The events of a list that matter at a location: its own, and the crashes between the first and the last of these.
 -- The others leave the location as it is, or come where nothing depends on them.
 use Prim.Native.Nat.{ℕ, suc}
-use mathlib.Core.Bool.{Bool, true, false, not, _&&_}
+use mathlib.Core.Bool.{Bool, true, not, _&&_}
 use mathlib.Core.List.{List, [], _∷_, map}
-use lib.Dec.{T, eqb}
+use lib.Dec.{T}
 use lib.ListN.{getD}
-use Rattle.model.specs.Cxl0.{Location, Event, LStore, RStore, MStore, Load, LFlush, RFlush, Crash}
+use Rattle.model.specs.Cxl0.{Location, Event}
 use Rattle.model.specs.Schedule.{Step}
-use Rattle.model.specs.OneLocation.{eventAt}
-
--- The event names location x; a crash names none.
-unfoldable pub ownEvent : Location → Event → Bool
-ownEvent x (LStore i y v) = eqb x y
-ownEvent x (RStore i y v) = eqb x y
-ownEvent x (MStore i y v) = eqb x y
-ownEvent x (Load i y v) = eqb x y
-ownEvent x (LFlush i y) = eqb x y
-ownEvent x (RFlush i y) = eqb x y
-ownEvent x (Crash i) = false
-
-unfoldable pub isCrash : Event → Bool
-isCrash (LStore i y v) = false
-isCrash (RStore i y v) = false
-isCrash (MStore i y v) = false
-isCrash (Load i y v) = false
-isCrash (LFlush i y) = false
-isCrash (RFlush i y) = false
-isCrash (Crash i) = true
+use Rattle.model.specs.OneLocation.{ownEvent, eventAt}
 
 -- No event of the list names x.
 unfoldable pub noneOwn : Location → List Event → Bool
