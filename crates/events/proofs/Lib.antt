@@ -2,9 +2,8 @@ pub mod Retimings
 pub mod Places
 pub mod Leading
 pub mod LogWords
-pub mod FieldBytes
 pub mod LinkTurns
-pub mod DecodeTurns
-pub mod LoadingLoop
+pub mod Decodings
+pub mod Loadings
 pub mod Copies
 pub mod PickingLoop

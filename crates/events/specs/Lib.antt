@@ -1,5 +1,7 @@
 pub mod Thinning
 pub mod Linking
-pub mod Logging
+pub mod Decoding
+pub mod Links
+pub mod Loading
 pub mod Picking
 pub mod Retiming

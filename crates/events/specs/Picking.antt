@@ -5,9 +5,9 @@ use mathlib.Core.List.{List}
 use lib.Dec.{ltb}
 use lib.ListN.{getD}
 use Rattle.scratch.specs.Layout.{EVENTS, LOG}
+use Rattle.scratch.specs.Words.{pairAt}
 use Rattle.events.specs.declared.picking.Pick.{Pick}
 use Rattle.events.specs.Linking.{nextOwnIn, nextCrashIn}
-use Rattle.events.specs.Logging.{pairAt}
 
 -- The area after event j of the log became event k.
 abbrev pub copied : ℕ → ℕ → List ℕ → List ℕ

@@ -1,8 +1,9 @@
 // The events of the log that matter at a location, copied to where the search looks for events.
-use crate::logging::head_of;
+use crate::linking::head_of;
 use model::Location;
 use scratch::EVENTS;
 use scratch::LOG;
+use scratch::put_pair;
 ghost use Prim.Native.Nat.{_+_, _*_, _≤_, _<_};
 ghost use mathlib.Core.Path.{_≡_};
 ghost use mathlib.Core.List.{List};
@@ -36,9 +37,7 @@ fn copy_event(w: &mut [u64], j: usize, k: usize) -> u64
     let from = LOG + 2 * j;
     let word = w[from];
     let value = w[from + 1];
-    let to = EVENTS + 2 * k;
-    w[to] = word;
-    w[to + 1] = value;
+    put_pair(w, EVENTS + 2 * k, word, value);
     word
 }
 

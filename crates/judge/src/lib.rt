@@ -7,7 +7,7 @@ mod visiting;
 
 use clearing::clear;
 use cursors::opening::open;
-use events::logging::load;
+use events::load;
 use fields::Refusal;
 use log::Head;
 use reader::Reading;

@@ -13,6 +13,7 @@ use Rattle.model.specs.Meaning.{topologyOf}
 use Rattle.states.specs.States.{stateOf}
 use Rattle.model.proofs.Tests.{and-l, and-r}
 use Rattle.log.specs.Records.{Records, systemOf}
+use Rattle.log.proofs.Checks.{clash}
 use Rattle.cursors.specs.Opening.{Opens}
 use Rattle.cursors.specs.Cursors.{Events}
 use Rattle.cursors.specs.declared.Opened.{Opened}
@@ -28,14 +29,14 @@ use Rattle.replay.specs.declared.walking.Place.{Place}
 -- A count is that of the steps that were read.
 pub steps-read : (o : Option (List Step)) (m : ℕ) → gives m ≡ counted o
     → (ps : List Step) × (o ≡ some ps) × (length ps ≡ m)
-steps-read none m e = let z : _≡_ {A = ℕ} 0 1 = cc in absurd (omega arith)
+steps-read none m e = clash (cc)
 steps-read (some ps) m e = (ps, refl, (cc))
 
 -- A refusal is 13, and no steps were read.
 pub none-read : (o : Option (List Step)) (number : ℕ) → refused number ≡ counted o
     → (o ≡ none) × (number ≡ 13)
 none-read none number e = (refl, (cc))
-none-read (some ps) number e = let z : _≡_ {A = ℕ} 0 1 = cc in absurd (omega arith)
+none-read (some ps) number e = clash (cc)
 
 module _ (sys : Topology) (n : ℕ) (ps : List Step) (f : List ℕ) (read : readSchedule sys n f ≡ some ps) where
   -- At most 256 steps are read, and they are in order.

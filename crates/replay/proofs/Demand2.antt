@@ -15,6 +15,7 @@ use Rattle.model.specs.Schedule.{Step, weave, inOrder}
 use Rattle.model.proofs.Tests.{and-l}
 use Rattle.log.specs.Records.{Records, systemOf}
 use Rattle.log.specs.Reading.{Log, accepted, rejected, readLog}
+use Rattle.log.proofs.Checks.{clash}
 use Rattle.verdict_file.specs.Files.{allowed, fileOf, stepsMost}
 use Rattle.verdict_file.specs.Schedules.{everyStepFits, scheduleFits, readSchedule}
 use Rattle.verdict_file.proofs.Files.{length-allowed}
@@ -58,10 +59,10 @@ of-admitted a answered s f e =
     (r, ps, record { log = log; file = file; fits = fits }, said)
 
 not-yes : (n : ℕ) → Answer.refused n ≡ Answer.yes → ⊥
-not-yes n e = let z : _≡_ {A = ℕ} 0 1 = cc in omega arith
+not-yes n e = clash (cc)
 
 not-no : (k n : ℕ) → Answer.refused n ≡ Answer.no k → ⊥
-not-no k n e = let z : _≡_ {A = ℕ} 0 1 = cc in omega arith
+not-no k n e = clash (cc)
 
 -- Yes exactly where log and schedule are admitted and the events, woven with the steps, are a run of the whole system.
 pub yes-exactly : (s f : List ℕ)

@@ -20,6 +20,7 @@ use Rattle.model.specs.declared.Event as model
 use Rattle.model.proofs.Tests.{T→true}
 use Rattle.model.proofs.Weaving.{inOrder-cons, weave-due, weave-event}
 use Rattle.log.proofs.Elements.{no-elements}
+use Rattle.log.proofs.Checks.{clash}
 use Rattle.cursors.specs.Cursors.{Numbers, eventWith, eventAt, Events, next-event}
 use Rattle.cursors.specs.Answers.{numbersOf}
 use Rattle.cursors.proofs.Found.{operation-found}
@@ -44,7 +45,7 @@ propagates p h = go (p .machine) h
 -- ---- one action
 
 two-tests : true ≡ false → ⊥
-two-tests e = let z : _≡_ {A = ℕ} 0 1 = cc in omega arith
+two-tests e = clash (cc)
 
 -- What comes of an action: its test decides between going on and the answer no.
 module _ (s : cxl0.State) (more : cxl0.State → Answer) (halt a : Answer) where
@@ -120,8 +121,7 @@ module _ {s f : List ℕ} {t : Topology} {n : ℕ} {a : Answer} {k : ℕ} {w : P
       go : (ps : List Step) → g .ps ≡ ps → Goes s f t n a k w r
       go [] e =
           let last = stops f (w .step) (rw e at (g .steps)) in
-          let z : _≡_ {A = ℕ} 0 1 = cc in
-          absurd (omega arith)
+          clash (cc)
       go (q ∷ qs) e =
           let (first, rest) = walks f (w .step) (rw e at (g .steps)) in
           let both = Option·some-injective (q, w .step + 6) (p, j) (sym first ∙ found) in
@@ -165,8 +165,7 @@ module _ {s f : List ℕ} {t : Topology} {n : ℕ} {a : Answer} {k : ℕ} {w : P
       go : (ps : List Step) → g .ps ≡ ps → Goes s f t n a k w r
       go [] e =
           let last = stops f (w .step) (rw e at (g .steps)) in
-          let z : _≡_ {A = ℕ} 0 1 = cc in
-          absurd (omega arith)
+          clash (cc)
       go (q ∷ qs) e =
           let (first, rest) = walks f (w .step) (rw e at (g .steps)) in
           let both = Option·some-injective (q, w .step + 6) (p, j) (sym first ∙ found) in
@@ -185,8 +184,7 @@ module _ {s f : List ℕ} {t : Topology} {n : ℕ} {a : Answer} {k : ℕ} {w : P
       go [] e = event-next (rw e tt) (omega (arith, g .ahead, ap length e)) r took
       go (q ∷ qs) e =
           let (first, rest) = walks f (w .step) (rw e at (g .steps)) in
-          let z : _≡_ {A = ℕ} 0 1 = cc in
-          absurd (omega arith)
+          clash (cc)
 
 -- Where something is ahead, it is one thing and what remains.
 pub one-ahead : {s f : List ℕ} {t : Topology} {n : ℕ} {a : Answer} {k : ℕ} {w : Place}

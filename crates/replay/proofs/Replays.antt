@@ -12,10 +12,11 @@ use Rattle.model.specs.Cxl0.{Topology, State, start, Event, Action, event, sile
 use Rattle.model.specs.Cxl0.{runs, after, Run, events}
 use Rattle.model.specs.Schedule.{Step, weave}
 use Rattle.model.proofs.Tests.{by-test, and-i, and-l, and-r, T→true, not→false}
+use Rattle.log.proofs.Checks.{clash}
 use Rattle.replay.specs.Replaying.{Answer, yes, no, counted, replayFrom, replayed, Stops}
 
 yes≢no : (n : ℕ) → Answer.no n ≡ Answer.yes → ⊥
-yes≢no n e = let z : _≡_ {A = ℕ} 0 1 = cc in omega arith
+yes≢no n e = clash (cc)
 
 -- Replay from any state says yes exactly where the actions run from it.
 yes-from : (sys : Topology) (n : ℕ) (acts : List Action) (s : State)
@@ -161,7 +162,7 @@ never-refused sys es ps number e =
     (yes-or-no sys 0 (weave es ps) (start sys))
   where
     refusal : Answer.refused number ≡ Answer.yes → ⊥
-    refusal e = let z : _≡_ {A = ℕ} 0 1 = cc in omega arith
+    refusal e = clash (cc)
 
     refusal-no : (k : ℕ) → Answer.refused number ≡ Answer.no k → ⊥
-    refusal-no k e = let z : _≡_ {A = ℕ} 0 1 = cc in omega arith
+    refusal-no k e = clash (cc)

@@ -9,13 +9,13 @@ use Rattle.model.specs.Cxl0.{Value}
 use Rattle.rows.specs.declared.Row.{Row}
 use Rattle.scratch.specs.declared.Waypoint.{Waypoint}
 use Rattle.scratch.specs.Layout.{ROWS, WAYPOINTS, WORDS, MOST, OnlyIn}
-use Rattle.scratch.specs.Words.{rowIn, copyIn, waypointIn, RowPut, CopyPut, WaypointPut}
+use Rattle.scratch.specs.Words.{pairAt, rowIn, copyIn, waypointIn, RowPut, CopyPut, WaypointPut}
 use Rattle.scratch.proofs.Frames.{only-set, only-then}
 
 -- Two words that are written one after the other: how they read, and that they are all that has changed.
 module _ (w : List ℕ) (i a b : ℕ) where
-  abbrev pub two : List ℕ
-  two = set (set w i a) (i + 1) b
+  abbrev two : List ℕ
+  two = pairAt i a b w
 
   pub two-read : i + 1 < length w → (getD two i 0 ≡ a) × (getD two (i + 1) 0 ≡ b)
   two-read h = (
@@ -35,11 +35,11 @@ place-parts word c m end p q e = (omega arith, omega arith, omega arith)
 
 module _ (w : List ℕ) (room : WORDS ≤ length w) where
   pub row-put : (t : ℕ) (row : Row) → t ≤ MOST → row .value < 4294967296
-      → RowPut w t row (set (two w (ROWS + 4 * t) (row .any) (row .one)) (ROWS + 4 * t + 2) (row .value))
+      → RowPut w t row (set (pairAt (ROWS + 4 * t) (row .any) (row .one) w) (ROWS + 4 * t + 2) (row .value))
   unfolding rowIn
   row-put t row h v =
       let at = ROWS + 4 * t in
-      let w' = two w at (row .any) (row .one) in
+      let w' = pairAt at (row .any) (row .one) w in
       let read = two-read w at (row .any) (row .one) (omega arith) in
       let last = getD-set-same w' (at + 2) (row .value) 0 (simp length-set (omega arith)) in
       let w'' = set w' (at + 2) (row .value) in

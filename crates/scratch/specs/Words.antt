@@ -2,7 +2,7 @@
 use Prim.Native.Nat.{ℕ, zero, suc, _+_, _*_, _/_, _%_}
 use mathlib.Core.Path.{_≡_}
 use mathlib.Core.List.{List, [], _∷_, map}
-use lib.ListN.{getD}
+use lib.ListN.{getD, set}
 use lib.Seq.{slice}
 use Rattle.model.specs.Cxl0.{Event, Value}
 use Rattle.model.specs.Operations.{eventOf}
@@ -12,6 +12,10 @@ use Rattle.model.specs.declared.Event as event
 use Rattle.rows.specs.declared.Row.{Row}
 use Rattle.scratch.specs.declared.Waypoint.{Waypoint}
 use Rattle.scratch.specs.Layout.{EVENTS, ROWS, WAYPOINTS, OnlyIn}
+
+-- The area with two words from a place on.
+abbrev pub pairAt : ℕ → ℕ → ℕ → List ℕ → List ℕ
+pairAt place a b w = set (set w place a) (place + 1) b
 
 -- ---- events
 

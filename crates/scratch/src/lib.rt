@@ -8,10 +8,11 @@ use model::Location;
 use model::Machine;
 use rows::Row;
 ghost use mathlib.Core.Path.{_≡_};
-ghost use Prim.Native.Nat.{_≤_, _<_};
+ghost use Prim.Native.Nat.{_+_, _≤_, _<_};
 ghost use lib.ListN.{length};
 ghost use Rattle.scratch.specs.Layout.{WORDS, MOST};
-ghost use Rattle.scratch.specs.Words.{rowIn, copyIn, waypointIn, structIn, RowPut, CopyPut, WaypointPut};
+ghost use Rattle.scratch.specs.Words.{pairAt, rowIn, copyIn, waypointIn, structIn};
+ghost use Rattle.scratch.specs.Words.{RowPut, CopyPut, WaypointPut};
 
 // The fewest words of a scratch area, the most events that it holds, and the most steps of a schedule.
 pub const WORDS: usize = 4096;
@@ -46,6 +47,15 @@ pub struct Waypoint {
     pub code: u8,
     pub memory: u32,
     pub end: usize,
+}
+
+// Puts two words, the second after the first.
+pub fn put_pair(w: &mut [u64], at: usize, first: u64, second: u64)
+    requires { ⌜ at + 1 < length (now w) ⌝ }
+    ensures { λ _. ⌜ now (w .exit) ≡ pairAt at first second (now (w .entry)) ⌝ }
+{
+    w[at] = first;
+    w[at + 1] = second;
 }
 
 // Event j.

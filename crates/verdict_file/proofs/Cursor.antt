@@ -9,6 +9,7 @@ use lib.ListN.{length, drop, length-drop}
 use lib.Seq.{drop-drop}
 use borrow.Author.Tests.{le-leb, ne-eqb}
 use Rattle.model.specs.Schedule.{Step}
+use Rattle.log.proofs.Checks.{clash}
 use Rattle.verdict_file.specs.Schedules.{starts, begins, isEnd, firstStep, stepAt, readSteps}
 use Rattle.verdict_file.proofs.Fields.{passed, long}
 
@@ -40,8 +41,8 @@ steps-from (t ∷ lo ∷ hi ∷ b ∷ x ∷ i ∷ s) =
 -- A first step is at the front, and where there is none there are no steps.
 first-step : (o : Option Step) (ended : Bool) (more : Option (List Step)) {p : Step} {ps : List Step}
     → after o ended more ≡ some (p ∷ ps) → (o ≡ some p) × (more ≡ some ps)
-first-step none true more e = let z : _≡_ {A = ℕ} 0 1 = cc in absurd (omega arith)
-first-step none false more e = let z : _≡_ {A = ℕ} 0 1 = cc in absurd (omega arith)
+first-step none true more e = clash (cc)
+first-step none false more e = clash (cc)
 first-step (some q) ended more e =
     let (qs, rest, same) = map-eq-some-iff (λ qs. q ∷ qs) more .0 e in
     (cc, cc)
@@ -51,8 +52,7 @@ no-step : (o : Option Step) (ended : Bool) (more : Option (List Step))
 no-step none ended more e = refl
 no-step (some q) ended more e =
     let (qs, rest, same) = map-eq-some-iff (λ qs. q ∷ qs) more .0 e in
-    let z : _≡_ {A = ℕ} 0 1 = cc in
-    absurd (omega arith)
+    clash (cc)
 
 module _ (s : List ℕ) (at : ℕ) where
   -- A step and the next position, from the step at the front.

@@ -1,12 +1,12 @@
 -- What a writer that has asked its questions comes to, and what its answer says.
 use Prim.Native.Nat.{ℕ, _+_, _-_, _≤_}
-use native.Mathlib.Omega.{arith}
 use mathlib.Core.Path.{_≡_, refl, sym, ap, _∙_}
 use mathlib.Core.Bool.{Bool, true, false, cond}
 use mathlib.Core.List.{List}
 use lib.ListN.{length}
 use borrow.Rule.Slice.PartMut.{midOf, putMid}
 use borrow.Author.Tests.{leb-true}
+use Rattle.log.proofs.Checks.{clash}
 use Rattle.verdict_file.specs.Files.{Verdict, fileOf, fileMost}
 use Rattle.verdict_file.specs.Answers.{gives, refused}
 use Rattle.verdict_file.specs.Writing.{writable, room, put, answer, output}
@@ -59,5 +59,5 @@ module _ (out : List ℕ) (offset : ℕ) (v : Verdict) where
       by-questions : (b c : Bool) → cond b (cond c (gives len) (refused 13)) (refused 1) ≡ gives n
           → (b ≡ true) × (c ≡ true) × (n ≡ len)
       by-questions true true e = (refl, refl, (cc))
-      by-questions true false e = let z : _≡_ {A = ℕ} 0 1 = cc in absurd (omega arith)
-      by-questions false c e = let z : _≡_ {A = ℕ} 0 1 = cc in absurd (omega arith)
+      by-questions true false e = clash (cc)
+      by-questions false c e = clash (cc)

@@ -76,7 +76,7 @@ returns c =
     let (settled, sized) = t .settle .ensures in
     let loads = d .load .ensures in
     decided (log k) (bytes k) r read (a .head) heads (k .«open» .result) (opens k) loads (now (a .scratch)) settled
-    (e .clear .ensures ∙ ap zeros (sized ∙ loads .sized))
+    (e .clear .ensures ∙ ap zeros (sized ∙ loads .frame .sized))
 
 pub decide-spec : {M : Type 1} → statement M
 decide-spec =
