@@ -6,7 +6,7 @@ use mathlib.Core.Path.{_≡_, refl, _∙_}
 use mathlib.Core.Logic.{_≢_, _⊎_, inl, inr, ⊎-elim}
 use mathlib.Core.Bool.{Bool, true, false, cond}
 use mathlib.Core.List.{List, [], _∷_}
-use lib.Dec.{eqb, ltb, ltb→lt, nltb→le}
+use lib.Dec.{ltb, ltb→lt, nltb→le}
 use lib.ListN.{length}
 use Rattle.model.specs.Cxl0.{Location, Event, LStore, RStore, MStore, Load, LFlush, RFlush, Crash}
 use Rattle.model.specs.Cxl0.{event, count, isStore, isLoad}
@@ -15,22 +15,14 @@ use Rattle.model.proofs.Tests.{by-test, not→false, ne→test}
 use Rattle.model.specs.Sums.{sum}
 use Rattle.model.proofs.Sums.{sum-zero, sum-le, sum-at}
 use Rattle.model.proofs.Potential.{gain}
+use Rattle.model.proofs.Locations.{AtOne, located}
 use Rattle.walking.specs.Allowance.{allowance}
 use Rattle.search.proofs.Allowance.{allowance-cons}
 
--- An event is at one location, or it adds nothing.
-abbrev AtOne : Event → Type 0
-AtOne e = (z : Location) × ((y : Location) → eventAt y e ≡ eqb y z)
-
+-- An event is at one location, or it is a crash and adds nothing.
 at-one : (e : Event) → AtOne e ⊎ (gain (event e) ≡ 0)
-unfolding eventAt gain isStore isLoad
-at-one (LStore i z v) = inl (z, λ y. refl)
-at-one (RStore i z v) = inl (z, λ y. refl)
-at-one (MStore i z v) = inl (z, λ y. refl)
-at-one (Load i z v) = inl (z, λ y. refl)
-at-one (LFlush i z) = inl (z, λ y. refl)
-at-one (RFlush i z) = inl (z, λ y. refl)
-at-one (Crash i) = inr refl
+unfolding gain isStore isLoad
+at-one e = ⊎-elim inl (λ crash. inr (rw (crash .1) refl)) (located e)
 
 gain-few : (e : Event) → gain (event e) ≤ 2
 unfolding gain isStore isLoad
@@ -59,7 +51,7 @@ module _ (n : ℕ) (e : Event) (es : List Event) where
 
   elsewhere : (at : AtOne e) (y : Location) → y ≢ at .0 → all y ≤ rest y
   elsewhere at y ne =
-      let away : eventAt y e ≡ false = at .1 y ∙ not→false (ne→test y (at .0) ne) in
+      let away : eventAt y e ≡ false = at .2 y ∙ not→false (ne→test y (at .0) ne) in
       omega (arith, rw away at (allowance-cons y e es))
 
   -- One event more adds to the sum of the allowances what it adds at one location.

@@ -1,16 +1,18 @@
 -- A site with what the topology says of its location describes the location.
 use Prim.Native.Nat.{_<_}
 use native.Mathlib.Nat.{le-trans}
-use mathlib.Core.Path.{_≡_, sym}
-use mathlib.Core.Bool.{not}
+use mathlib.Core.Path.{_≡_, sym, ap}
 use lib.Dec.{T, leb, ltb, leb→le, lt→ltb}
 use lib.ListN.{length}
-use Rattle.model.specs.Cxl0.{Machine, Location, isMachine, isLocation, owner, initial, crashes, clears}
+use Rattle.model.specs.Cxl0.{Machine, Location, isMachine, isLocation, owner}
+use Rattle.model.specs.OneLocation
+use Rattle.model.specs.OneLocation.{siteOf}
 use Rattle.model.specs.Meaning.{topologyOf, withinLimits}
 use Rattle.model.specs.declared.Topology as topology
 use Rattle.model.proofs.Tests.{and-i, and-l, and-r}
 use Rattle.model.proofs.Limits.{within, listed}
 use Rattle.masks.specs.Sets.{OneToSix}
+use Rattle.entries.specs.Entries.{siteMeant}
 use Rattle.entries.specs.declared.Site.{Site}
 use Rattle.rows.specs.Sites.{Describes}
 
@@ -31,18 +33,14 @@ is-listed t full limits x h =
     rw (listed t full x)
     (and-i (ltb x (t .locations)) (ltb x 32) (lt→ltb x (t .locations) h) (lt→ltb x 32 (le-trans h few)))
 
--- The owner, whether its memory is volatile, and the initial value are what the search is to know.
-pub described : (t : topology.Topology) {s : Site} → T (withinLimits t)
-    → T (isLocation (topologyOf t) (s .location .0))
-    → s .owner .0 ≡ owner (topologyOf t) (s .location .0)
-    → s .volatile ≡ not (topologyOf t .persistent (s .owner .0))
-    → s .initial ≡ initial (topologyOf t) (s .location .0)
+-- What the topology says of a location is what the search is to know.
+pub described : (t : topology.Topology) {s : Site} {x : Location} → s .location .0 ≡ x
+    → T (withinLimits t) → T (isLocation (topologyOf t) x) → siteMeant s ≡ siteOf (topologyOf t) x
     → Describes (topologyOf t) s
-unfolding clears crashes
-described t {s} limits listed owned volatile begins =
+unfolding siteOf
+described t {x = x} here limits listed meant =
+    let owned = ap (λ (k : OneLocation.Site). k .owner) meant in
     record {
-      owned = sym owned;
-      machine = rw owned (one-to-six t limits _ (within t limits .well-formed (s .location .0) listed));
-      cleared = λ i. rw (volatile, owned);
-      begins = sym begins;
+      here = rw here (sym meant);
+      machine = rw owned (one-to-six t limits _ (within t limits .well-formed x listed));
     }

@@ -3,14 +3,14 @@ use Prim.Native.Nat.{ℕ, zero, suc, _+_, _≤_, _<_}
 use native.Mathlib.Nat.{le-of-suc-le-suc, not-suc-le-zero, add-zero, zero-add}
 use native.Mathlib.Omega.{arith}
 use mathlib.Core.Path.{_≡_, refl}
-use mathlib.Core.Bool.{_&&_}
 use mathlib.Core.List.{List, map}
 use lib.Dec.{T}
-use Rattle.model.specs.Cxl0.{Machine, Location, Topology, isMachine, isLocation, named, allNamed, event}
-use Rattle.model.specs.Cxl0.{Event, LStore, RStore, MStore, Load, LFlush, RFlush, Crash}
+use Rattle.model.specs.Cxl0.{Topology, named, allNamed, event}
+use Rattle.model.specs.Cxl0.{Event}
 use Rattle.model.specs.Operations.{isOperation}
 use Rattle.model.proofs.Tests.{and-l, and-r}
 use Rattle.model.proofs.Expand.{machine-bounds}
+use Rattle.model.proofs.Locations.{named-machine}
 use Rattle.masks.specs.Sets.{OneToSix}
 use Rattle.model.specs.OneLocation.{machineOf}
 use Rattle.rows.specs.Sites.{Known}
@@ -19,21 +19,10 @@ use Rattle.scratch.specs.Words.{eventIn, eventsFrom, eventsIn, structIn}
 use Rattle.scratch.proofs.Events.{meant-read}
 
 module _ (sys : Topology) (few : sys .machines ≤ 6) where
-  by : (i : Machine) → T (isMachine sys i) → OneToSix i
-  by i t = let b = machine-bounds sys i t in (b .0, omega arith)
-
-  at : (i : Machine) (x : Location) → T (isMachine sys i && isLocation sys x) → OneToSix i
-  at i x t = by i (and-l (isMachine sys i) (isLocation sys x) t)
-
   one-machine : (e : Event) → T (named sys (event e)) → OneToSix (machineOf e)
-  unfolding named
-  one-machine (LStore i x v) t = at i x t
-  one-machine (RStore i x v) t = at i x t
-  one-machine (MStore i x v) t = at i x t
-  one-machine (Load i x v) t = at i x t
-  one-machine (LFlush i x) t = at i x t
-  one-machine (RFlush i x) t = at i x t
-  one-machine (Crash i) t = by i t
+  one-machine e t =
+      let b = machine-bounds sys (machineOf e) (named-machine sys e t) in
+      (b .0, omega (arith, b .1))
 
   machines-from : (w : List ℕ) (j m : ℕ) → T (allNamed sys (map event (eventsFrom w j m)))
       → (k : ℕ) → k < m → OneToSix (machineOf (eventIn w (j + k)))

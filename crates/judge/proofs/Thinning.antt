@@ -2,18 +2,20 @@
 use Prim.Native.Nat.{ℕ}
 use native.Mathlib.Omega.{arith}
 use mathlib.Core.Path.{_≡_, refl, ap, _∙_, subst, sym}
-use mathlib.Core.Logic.{_↔_}
+use mathlib.Core.Logic.{⊎-elim, _↔_}
 use mathlib.Core.Bool.{Bool, true, false, cond, not, _&&_}
 use mathlib.Core.List.{List, [], _∷_}
 use lib.Dec.{T, eqb}
-use Rattle.model.specs.Cxl0.{Machine, Location, Value, Topology, owner, initial, clears}
-use Rattle.model.specs.Cxl0.{Event, LStore, RStore, MStore, Load, LFlush, RFlush, Crash}
+use Rattle.model.specs.Cxl0.{Machine, Location, Value, Topology, owner, initial}
+use Rattle.model.specs.Cxl0.{Event, Crash}
 use Rattle.model.specs.Cxl0.{Propagate, WriteBack, event}
 use Rattle.model.specs.Sharers.{has, remove}
-use Rattle.model.specs.OneLocation.{Local, eventAt, silentAt, concerns, enabledAt, effect, possibleAt, nextAt}
+use Rattle.model.specs.OneLocation.{Local, locationOf, siteOf, clearsSite, eventAt, silentAt, concerns, enabledAt}
+use Rattle.model.specs.OneLocation.{effect, possibleAt, nextAt}
 use Rattle.model.specs.OneLocation.{startAt, HasRunAt, Silently, still, step}
 use Rattle.model.proofs.Tests.{true→T, not→false, and-l, and-r}
 use Rattle.model.proofs.Sharers.{remove-le}
+use Rattle.model.proofs.Locations.{located, foreign-elsewhere}
 use Rattle.model.proofs.SilentSteps.{has→some}
 use Rattle.model.proofs.Gaps.{has-run-nil, after-gap, has-run-cons}
 use Rattle.model.specs.OneLocation.{ownEvent}
@@ -36,44 +38,40 @@ module _ (sys : Topology) (x : Location) where
   -- So is every event that does not name x, crashes too.
   pub foreign-possible : (e : Event) (s : Local) → T (not (ownEvent x e))
       → possibleAt sys x (event e) s ≡ true
-  unfolding ownEvent eventAt
-  foreign-possible (LStore i y v) s t = elsewhere-possible (LStore i y v) s t
-  foreign-possible (RStore i y v) s t = elsewhere-possible (RStore i y v) s t
-  foreign-possible (MStore i y v) s t = elsewhere-possible (MStore i y v) s t
-  foreign-possible (Load i y v) s t = elsewhere-possible (Load i y v) s t
-  foreign-possible (LFlush i y) s t = elsewhere-possible (LFlush i y) s t
-  foreign-possible (RFlush i y) s t = elsewhere-possible (RFlush i y) s t
-  foreign-possible (Crash i) s t = unfold possibleAt concerns enabledAt in refl
+  unfolding possibleAt concerns enabledAt eventAt locationOf
+  foreign-possible e s t =
+      ⊎-elim
+      (λ at. elsewhere-possible e s (foreign-elsewhere x e (at .1) t))
+      (λ crash. rw (crash .1) refl)
+      (located e)
 
   cond-same : (b : Bool) (v : Value) → cond b v v ≡ v
   cond-same true v = refl
   cond-same false v = refl
 
   -- A crash leaves the start as it is.
-  start-crash : (i : Machine) → effect sys x (event (Crash i)) (startAt sys x) ≡ startAt sys x
-  unfolding effect startAt
+  start-crash : (i : Machine) → effect (siteOf sys x) (event (Crash i)) (startAt sys x) ≡ startAt sys x
+  unfolding effect siteOf startAt
   start-crash i =
       let none : remove i 0 ≡ 0 = omega (arith, remove-le i 0) in
-      let same = cond-same (clears sys (Crash i) x) (initial sys x) in
+      let same = cond-same (clearsSite (Crash i) (siteOf sys x)) (initial sys x) in
       λ j. record { code = none j; copy = 0; memory = same j }
 
   -- At the start an event that does not name x leaves x as it is.
   pub foreign-next : (e : Event) → T (not (ownEvent x e))
       → nextAt sys x (event e) (startAt sys x) ≡ startAt sys x
-  unfolding ownEvent eventAt
-  foreign-next (LStore i y v) t = elsewhere-next (LStore i y v) (startAt sys x) t
-  foreign-next (RStore i y v) t = elsewhere-next (RStore i y v) (startAt sys x) t
-  foreign-next (MStore i y v) t = elsewhere-next (MStore i y v) (startAt sys x) t
-  foreign-next (Load i y v) t = elsewhere-next (Load i y v) (startAt sys x) t
-  foreign-next (LFlush i y) t = elsewhere-next (LFlush i y) (startAt sys x) t
-  foreign-next (RFlush i y) t = elsewhere-next (RFlush i y) (startAt sys x) t
-  foreign-next (Crash i) t = unfold nextAt concerns in start-crash i
+  unfolding nextAt concerns eventAt locationOf
+  foreign-next e t =
+      ⊎-elim
+      (λ at. elsewhere-next e (startAt sys x) (foreign-elsewhere x e (at .1) t))
+      (λ crash. rw (crash .1) (start-crash (crash .0)))
+      (located e)
 
   -- ---- silent steps
 
   -- Where no machine holds a copy, x has no silent step.
   quiet : {s t : Local} → Silently sys x s t → s .code ≡ 0 → t ≡ s
-  unfolding enabledAt
+  unfolding enabledAt siteOf
   quiet still z = refl
   quiet (step {s} (Propagate i y) p r) z =
       let other : Bool = not (eqb i (owner sys x)) in

@@ -11,7 +11,7 @@ use lib.ListN.{length, getD, take, drop, length-take, length-append, length-map}
 use lib.Seq.{take-all, take-take}
 use Rattle.model.specs.Cxl0.{Location, Topology, owner, initial, WellFormed, Event, event, allNamed}
 use Rattle.model.specs.Schedule.{Step, weave, weaveFrom, steps, inOrder}
-use Rattle.model.specs.OneLocation.{startAt, HasRunAt, runsAt}
+use Rattle.model.specs.OneLocation.{siteOf, startAt, HasRunAt, runsAt}
 use Rattle.model.specs.Meaning.{topologyOf}
 use Rattle.model.specs.Words.{stepOfWord}
 use Rattle.model.specs.declared.Topology as topology
@@ -176,7 +176,7 @@ module _ {t : topology.Topology} {n x : ℕ} {p : Progress} {w : List ℕ} (can 
     pub visit-none : k ≡ 0 → Visits t n (suc x) w p w₁
     unfolding eventsFrom retimed
     visit-none e =
-        let d : Describes sys site = described t (can .loaded .limits) (can .listed) refl refl refl in
+        let d : Describes sys site = described t refl (can .loaded .limits) (can .listed) (unfold siteOf in refl) in
         let none : eventsIn w₁ k ≡ [] = rw e in
         let run : HasRunAt sys x (eventsIn w₁ k) (startAt sys x) = rw none (has-run-nil sys x (startAt sys x)) in
         record {

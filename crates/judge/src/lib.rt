@@ -2,7 +2,6 @@
 // writes the verdict file. specs/Judging.antt says what it answers and leaves.
 mod clearing;
 mod settling;
-mod sites;
 mod visiting;
 
 use clearing::clear;

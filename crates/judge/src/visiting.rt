@@ -1,5 +1,5 @@
 // The search over all locations, one after the other, each with only the events of the log that matter there.
-use crate::sites::site_of;
+use entries::Site;
 use events::picking::pick_events;
 use events::picking::place;
 use events::retiming::retime;
@@ -24,7 +24,7 @@ fn visit(w: &mut [u64], t: Topology, x: Location, all: usize, p: Progress) -> Pr
     if count == 0 {
         return p;
     }
-    let site = site_of(t, x);
+    let site = Site::of(t, x);
     let found = explain(w, site, count, p.steps);
     if found.events < count {
         return Progress {

@@ -53,6 +53,12 @@ unconcerned x e = go (locationOf e)
     go (some y) s t = s
     go none s t = absurd t
 
+-- An event at a location that is not x does not concern x.
+pub foreign-elsewhere : (x : Location) (e : Event) {y : Location} → locationOf e ≡ some y → T (not (ownEvent x e))
+    → T (not (eventAt x e))
+unfolding ownEvent eventAt
+foreign-elsewhere x e p t = rw p (rw p at t)
+
 -- A crash concerns every location.
 pub crash-everywhere : (x : Location) (e : Event) → T (isCrash e) → T (eventAt x e)
 unfolding isCrash eventAt

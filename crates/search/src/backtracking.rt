@@ -2,8 +2,8 @@
 //
 // Callers see to it that the scratch area has at least 4,096 words and at most 129 events, each known, and that the
 // values of the copies and the waypoints of the walk are there.
-use rows::Row;
 use entries::Site;
+use rows::Row;
 use rows::fine;
 use rows::is_empty;
 use rows::last_row;

@@ -3,6 +3,9 @@ use native.Mathlib.Omega.{arith}
 use mathlib.Core.Path.{_≡_, ap}
 use borrow.Author.Needs.{needs}
 use Rattle.model.specs.declared.Location.{Location}
+use Rattle.model.specs.Meaning.{topologyOf}
+use Rattle.rows.specs.Sites.{Describes}
+use Rattle.judge.proofs.Described.{described}
 use Rattle.judge.proofs.Visits.{pick-can, pick-low, visit-explainable, visit-none, visit-ends}
 use Rattle.judge.proofs.Visits.{visit-same, visit-retimable, visit-extends}
 use Rattle.judge.proofs.visiting.visit.Statement.{statement}
@@ -12,11 +15,17 @@ use Rattle.judge.proofs.visiting.visit.Tie as tie
 abbrev start : tie.After-pick-events → tie.Start
 start c = c .before .before .before
 
-abbrev picks : tie.After-site-of → tie.After-pick-events
+abbrev picks : tie.After-of → tie.After-pick-events
 picks c = c .before .before .before .before
 
-here : (c : tie.After-site-of) → c .site-of .result .location .0 ≡ start (picks c) .args .x .0
-here c = ap (λ (l : Location). l .0) (c .site-of .ensures .1)
+here : (c : tie.After-of) → c .of .result .location .0 ≡ start (picks c) .args .x .0
+here c = ap (λ (l : Location). l .0) (c .of .ensures .1)
+
+describes : (c : tie.After-of) → Describes (topologyOf (start (picks c) .args .t)) (c .of .result)
+describes c =
+    let begun = start (picks c) in
+    let can = begun .pre in
+    described (begun .args .t) (here c) (can .loaded .limits) (can .listed) (c .of .ensures .0)
 
 abbrev explains : tie.After-struct-known → tie.After-explain
 explains c = c .before .before .before
@@ -31,7 +40,7 @@ explain-requires : tie.Need-explain-requires
 explain-requires c κs =
     let s = c .before in
     let k = picks s in
-    visit-explainable (start k .pre) (k .pick-events .ensures) (here s) (s .site-of .ensures .0)
+    visit-explainable (start k .pre) (k .pick-events .ensures) (here s) (describes s)
 
 returns-2 : tie.Need-returns-2
 returns-2 c =
@@ -39,7 +48,7 @@ returns-2 c =
     let f = explains (h .before) in
     let s = f .before .before in
     let k = picks s in
-    visit-ends (start k .pre) (k .pick-events .ensures) (here s) (s .site-of .ensures .0) (f .explain .ensures)
+    visit-ends (start k .pre) (k .pick-events .ensures) (here s) (describes s) (f .explain .ensures)
     (h .if2 .taken) _ (c .place .ensures)
 
 returns-3 : tie.Need-returns-3
@@ -48,7 +57,7 @@ returns-3 c =
     let f = explains (h .before) in
     let s = f .before .before in
     let k = picks s in
-    visit-same (start k .pre) (k .pick-events .ensures) (here s) (s .site-of .ensures .0) (f .explain .ensures)
+    visit-same (start k .pre) (k .pick-events .ensures) (here s) (describes s) (f .explain .ensures)
     (omega (arith, f .explain .ensures .most, h .if2 .left)) (c .if3 .taken)
 
 retime-requires : tie.Need-retime-requires
@@ -57,7 +66,7 @@ retime-requires c κs =
     let f = explains (h .before) in
     let s = f .before .before in
     let k = picks s in
-    visit-retimable (start k .pre) (k .pick-events .ensures) (here s) (s .site-of .ensures .0) (f .explain .ensures)
+    visit-retimable (start k .pre) (k .pick-events .ensures) (here s) (describes s) (f .explain .ensures)
     (omega (arith, f .explain .ensures .most, h .if2 .left)) (c .before .if3 .left)
 
 returns-4 : tie.Need-returns-4
@@ -68,7 +77,7 @@ returns-4 c =
     let f = explains (h .before) in
     let s = f .before .before in
     let k = picks s in
-    visit-extends (start k .pre) (k .pick-events .ensures) (here s) (s .site-of .ensures .0) (f .explain .ensures)
+    visit-extends (start k .pre) (k .pick-events .ensures) (here s) (describes s) (f .explain .ensures)
     (omega (arith, f .explain .ensures .most, h .if2 .left)) (e .if3 .left) (r .retime .ensures)
 
 pub visit-spec : {M : Type 1} → statement M
