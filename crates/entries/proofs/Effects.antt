@@ -1,8 +1,12 @@
 -- The entry of an action's effect, byte by byte.
-use Prim.Native.Nat.{ℕ, _<_}
-use native.Mathlib.Nat.{mod-eq-of-lt}
-use mathlib.Core.Path.{_≡_, refl, sym}
+use Prim.Native.Nat.{ℕ, _<_, _-_, _%_}
+use native.Mathlib.Nat.{mod-eq-of-lt, lt-of-le-of-lt}
+use mathlib.Core.Path.{_≡_, refl, sym, ap, _∙_}
 use mathlib.Core.Bool.{Bool}
+use lib.Bits.{bitAnd, and-le-l}
+use Rattle.model.specs.Cxl0.{Machine}
+use Rattle.model.specs.Sharers.{insert, remove}
+use Rattle.model.proofs.Bits.{remove-byte}
 use Rattle.entries.specs.Entries.{shortOf, entryOf}
 use Rattle.entries.specs.declared.Entry as entry
 use Rattle.entries.specs.declared.Acted as acted
@@ -23,3 +27,9 @@ same-acted p q = λ i. record { enabled = p i; entry = q i }
 pub entry-same : (e : entry.Entry) → e .sharers < 256 → e ≡ entryOf (shortOf e)
 unfolding shortOf entryOf
 entry-same e h = same-entry (sym (mod-eq-of-lt h)) refl
+
+-- The byte of a set without machine i.
+pub lost-byte : (i : Machine) (c b : ℕ) → b ≡ insert i 0 % 256 → c < 256 → bitAnd c (255 - b) ≡ remove i c % 256
+lost-byte i c b e h =
+    let low = lt-of-le-of-lt (and-le-l c (255 - b)) h in
+    sym (mod-eq-of-lt low) ∙ ap (λ (d : ℕ). d % 256) (remove-byte i c b e h)

@@ -1,8 +1,9 @@
 // What each action makes of the entry of its location. Names that the system does not have are for the state
 // to refuse; the equations hold for them too.
 ghost use mathlib.Core.Path.{_≡_};
-ghost use Rattle.model.specs.Cxl0.{event, LStore, RStore, MStore, Load, LFlush, RFlush, Crash};
-ghost use Rattle.model.specs.Cxl0.{silent, Propagate, WriteBack};
+ghost use mathlib.Core.Bool.{cond};
+ghost use Rattle.model.specs.Cxl0.{Crash, silent, Propagate, WriteBack};
+ghost use Rattle.model.specs.OneLocation.{clearsSite};
 ghost use Rattle.entries.specs.Entries.{siteMeant, maskedTo, actedOf, actedBy};
 use super::Acted;
 use super::Entry;
@@ -11,6 +12,34 @@ use model::Event;
 use model::Machine;
 use model::codes::bit;
 use model::codes::up_to;
+
+// The answer by its parts.
+fn acted(enabled: bool, sharers: u8, copy: u32, memory: u32) -> Acted
+    ensures { λ r. ⌜ r ≡ record {
+      enabled = enabled;
+      entry = record { sharers = sharers; copy = copy; memory = memory };
+    } ⌝ }
+{
+    let entry = Entry {
+        sharers,
+        copy,
+        memory,
+    };
+    Acted { enabled, entry }
+}
+
+impl Site {
+    // What a crash of machine i leaves of memory value m: the initial value, if i is the owner and its memory is volatile.
+    fn left(self, i: Machine, m: u32) -> u32
+        ensures { λ r. ⌜ r ≡ cond (clearsSite (Crash (i .0)) (siteMeant self)) (self .initial) m ⌝ }
+    {
+        if self.owner.is(i) & self.volatile {
+            self.initial
+        } else {
+            m
+        }
+    }
+}
 
 impl Entry {
     // The entry with the copies of machines 1 to n and no others.
@@ -25,143 +54,35 @@ impl Entry {
         }
     }
 
-    // The storing machine's cache gets the value; every other cache loses its copy.
-    fn l_store(self, site: Site, e: Event) -> Acted
-        ensures { λ r. ⌜ r ≡ actedOf (siteMeant site)
-            (event (LStore (e .machine .0) (e .location .0) (e .value))) self ⌝ }
-    {
-        let entry = Entry {
-            sharers: bit(e.machine),
-            copy: e.value,
-            memory: self.memory,
-        };
-        Acted {
-            enabled: true,
-            entry,
-        }
-    }
-
-    // The owner's cache gets the value; every other cache loses its copy.
-    fn r_store(self, site: Site, e: Event) -> Acted
-        ensures { λ r. ⌜ r ≡ actedOf (siteMeant site)
-            (event (RStore (e .machine .0) (e .location .0) (e .value))) self ⌝ }
-    {
-        let entry = Entry {
-            sharers: bit(site.owner),
-            copy: e.value,
-            memory: self.memory,
-        };
-        Acted {
-            enabled: true,
-            entry,
-        }
-    }
-
-    // Memory gets the value; every cache loses its copy.
-    fn m_store(self, site: Site, e: Event) -> Acted
-        ensures { λ r. ⌜ r ≡ actedOf (siteMeant site)
-            (event (MStore (e .machine .0) (e .location .0) (e .value))) self ⌝ }
-    {
-        let stored = Entry {
-            sharers: 0,
-            copy: self.copy,
-            memory: e.value,
-        };
-        Acted {
-            enabled: true,
-            entry: stored,
-        }
-    }
-
-    // If there is no copy, memory must hold the value, and nothing changes. If there is one, it must have the
-    // value, and the loading machine's cache gets it too.
-    fn load(self, site: Site, e: Event) -> Acted
-        ensures { λ r. ⌜ r ≡ actedOf (siteMeant site)
-            (event (Load (e .machine .0) (e .location .0) (e .value))) self ⌝ }
-    {
-        let c = self.sharers;
-        let v = e.value;
-        if c == 0 {
-            return Acted {
-                enabled: self.memory == v,
-                entry: self,
-            };
-        }
-        let entry = Entry {
-            sharers: c | bit(e.machine),
-            copy: self.copy,
-            memory: self.memory,
-        };
-        Acted {
-            enabled: self.copy == v,
-            entry,
-        }
-    }
-
-    // Possible if the flushing machine's cache has no copy.
-    fn l_flush(self, site: Site, e: Event) -> Acted
-        ensures { λ r. ⌜ r ≡ actedOf (siteMeant site) (event (LFlush (e .machine .0) (e .location .0))) self ⌝ }
-    {
-        let c = self.sharers;
-        let mine = bit(e.machine);
-        Acted {
-            enabled: c & mine == 0,
-            entry: self,
-        }
-    }
-
-    // Possible if no cache has a copy.
-    fn r_flush(self, site: Site, e: Event) -> Acted
-        ensures { λ r. ⌜ r ≡ actedOf (siteMeant site) (event (RFlush (e .machine .0) (e .location .0))) self ⌝ }
-    {
-        let c = self.sharers;
-        Acted {
-            enabled: c == 0,
-            entry: self,
-        }
-    }
-
-    // The crashed machine loses its copy. If it is the owner and its memory is volatile, memory begins again.
-    fn crash(self, site: Site, e: Event) -> Acted
-        ensures { λ r. ⌜ r ≡ actedOf (siteMeant site) (event (Crash (e .machine .0))) self ⌝ }
-    {
-        let i = e.machine;
-        let c = self.sharers;
-        let sharers = c & !bit(i);
-        let lost = site.owner.is(i) & site.volatile;
-        let memory = if lost { site.initial } else { self.memory };
-        let entry = Entry {
-            sharers,
-            copy: self.copy,
-            memory,
-        };
-        Acted {
-            enabled: true,
-            entry,
-        }
-    }
-
-    // An event by its operation number. One that is no operation's is not possible.
+    // An event by its operation number; one that is no operation's is not possible. A line has what the event asks, who
+    // holds copies after it, their value, and the value in memory.
     pub fn act(self, site: Site, e: Event) -> Acted
         ensures { λ r. ⌜ r ≡ actedBy (siteMeant site) e self ⌝ }
     {
+        let held = self.sharers;
+        let copy = self.copy;
+        let memory = self.memory;
+        let mine = bit(e.machine);
+        let v = e.value;
         let operation = e.operation;
         match operation {
-            1 => self.l_store(site, e),
-            2 => self.r_store(site, e),
-            3 => self.m_store(site, e),
-            4 => self.load(site, e),
-            5 => self.l_flush(site, e),
-            6 => self.r_flush(site, e),
-            7 => self.crash(site, e),
-            0 => Acted {
-                enabled: false,
-                entry: self,
+            // LStore, RStore, MStore
+            1 => acted(true, mine, v, memory),
+            2 => acted(true, bit(site.owner), v, memory),
+            3 => acted(true, 0, copy, v),
+            // Load, from memory if there is no copy, and then it leaves none
+            4 => if held == 0 {
+                acted(memory == v, 0, copy, memory)
+            } else {
+                acted(copy == v, held | mine, copy, memory)
             },
-            8..=255 => Acted {
-                enabled: false,
-                entry: self,
-            },
+            // LFlush, RFlush
+            5 => acted(held & mine == 0, held, copy, memory),
+            6 => acted(held == 0, held, copy, memory),
+            // a crash
+            7 => acted(true, held & !mine, copy, site.left(e.machine, memory)),
+            0 => acted(false, held, copy, memory),
+            8..=255 => acted(false, held, copy, memory),
         }
     }
 
@@ -169,34 +90,23 @@ impl Entry {
     pub fn propagate(self, site: Site, i: Machine) -> Acted
         ensures { λ r. ⌜ r ≡ actedOf (siteMeant site) (silent (Propagate (i .0) (site .location .0))) self ⌝ }
     {
-        let c = self.sharers;
+        let held = self.sharers;
         let k = site.owner;
         let mine = bit(i);
-        let entry = Entry {
-            sharers: c & !mine | bit(k),
-            copy: self.copy,
-            memory: self.memory,
-        };
-        Acted {
-            enabled: !i.is(k) & (c & mine != 0),
-            entry,
-        }
+        acted(
+            !i.is(k) & (held & mine != 0),
+            held & !mine | bit(k),
+            self.copy,
+            self.memory,
+        )
     }
 
     // Memory gets the value that the owner's cache holds, and every cache loses its copy.
     pub fn write_back(self, site: Site) -> Acted
         ensures { λ r. ⌜ r ≡ actedOf (siteMeant site) (silent (WriteBack (site .location .0))) self ⌝ }
     {
-        let c = self.sharers;
+        let held = self.sharers;
         let owners = bit(site.owner);
-        let written = Entry {
-            sharers: 0,
-            copy: self.copy,
-            memory: self.copy,
-        };
-        Acted {
-            enabled: c & owners != 0,
-            entry: written,
-        }
+        acted(held & owners != 0, 0, self.copy, self.copy)
     }
 }

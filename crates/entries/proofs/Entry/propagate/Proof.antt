@@ -20,7 +20,7 @@ byte c = omega arith
 returns : tie.Need-returns
 unfolding enabledAt effect moved shortOf entryOf actedOf
 returns c =
-    let mine = c .before .before in
+    let mine = c .before .before .before in
     let start = mine .before .before in
     let i = start .args .i .0 in
     let k = start .args .site .owner .0 in
@@ -28,9 +28,10 @@ returns c =
     let rest = remove-byte i held _ (mine .bit .ensures) (byte start) in
     let low = lt-of-le-of-lt (and-le-l held _) (byte start) in
     let gained = insert-byte k _ _ (c .before .bit2 .ensures) low in
-    same-acted
-    (ap₂ _&&_ (ap not (c .is .ensures)) (has-byte i held _ (mine .bit .ensures) (byte start)))
+    c .acted .ensures
+    ∙ same-acted
+    (ap₂ _&&_ (ap not (c .before .before .is .ensures)) (has-byte i held _ (mine .bit .ensures) (byte start)))
     (same-entry (gained ∙ ap (λ (d : ℕ). insert k d % 256) rest) refl)
 
 pub propagate-spec : {M : Type 1} → statement M
-propagate-spec = tie.close (tie.spec nothing nothing nothing returns)
+propagate-spec = tie.close (tie.spec nothing nothing nothing nothing returns)

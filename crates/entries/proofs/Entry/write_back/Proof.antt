@@ -1,7 +1,7 @@
 -- `write_back` meets its contract.
 use Prim.Native.Nat.{_<_}
 use native.Mathlib.Omega.{arith}
-use mathlib.Core.Path.{refl}
+use mathlib.Core.Path.{refl, _∙_}
 use Rattle.model.specs.OneLocation.{enabledAt, effect}
 use Rattle.model.proofs.Tests.{nothing}
 use Rattle.model.proofs.Bits.{has-byte}
@@ -16,9 +16,10 @@ byte c = omega arith
 returns : tie.Need-returns
 unfolding enabledAt effect shortOf entryOf actedOf
 returns c =
-    let start = c .before in
-    let k = start .args .site .owner .0 in
-    same-acted (has-byte k (start .args .self .sharers) _ (c .bit .ensures) (byte start)) refl
+    let bits = c .before in
+    let a = bits .before .args in
+    let holds = has-byte (a .site .owner .0) (a .self .sharers) _ (bits .bit .ensures) (byte (bits .before)) in
+    c .acted .ensures ∙ same-acted holds refl
 
 pub write-back-spec : {M : Type 1} → statement M
-write-back-spec = tie.close (tie.spec nothing returns)
+write-back-spec = tie.close (tie.spec nothing nothing returns)
