@@ -29,7 +29,8 @@ fn acted(enabled: bool, sharers: u8, copy: u32, memory: u32) -> Acted
 }
 
 impl Site {
-    // What a crash of machine i leaves of memory value m: the initial value, if i is the owner and its memory is volatile.
+    // What a crash of machine i leaves of memory value m: the initial value, if i is the owner and its memory is
+    // volatile.
     fn left(self, i: Machine, m: u32) -> u32
         ensures { λ r. ⌜ r ≡ cond (clearsSite (Crash (i .0)) (siteMeant self)) (self .initial) m ⌝ }
     {

@@ -1,5 +1,5 @@
-// Rows, line by line of the table that `row_before` has. With `rest` the row after an event, a line's call gives the row
-// before it, and `gap_row` closes that under the silent steps of the gap before the event.
+// Rows, line by line of the table that `row_before` has. With `rest` the row after an event, a line's call gives the
+// row before it, and `gap_row` closes that under the silent steps of the gap before the event.
 //
 // Internal: only crates of this project call it, and they meet what it requires. A machine's number is 1
 // to 6, a code is below 64, `rest` is closed, and an event is known: its operation is 1 LStore, 2 RStore, 3 MStore,

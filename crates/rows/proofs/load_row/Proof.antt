@@ -34,7 +34,8 @@ returns c k x =
     let pre = start (then .before) .pre in
     let some = c .before .before .all-but-empty in
     let only = c .before .only-if in
-    load-line (args .rest) _ (args .i .0) (args .u) (args .v) (from-memory (args .rest) (args .i .0) (args .u) (args .v) (only .result) (c .single .result)
+    load-line (args .rest) _ (args .i .0) (args .u) (args .v)
+    (from-memory (args .rest) (args .i .0) (args .u) (args .v) (only .result) (c .single .result)
     (pre .0) (pre .1) (then .before .fine .ensures .0 (then .if1 .taken))
     (λ d h. Iff·trans (only .ensures d h) (Iff·and (some .ensures d h) (eqb-true _ _, eq-eqb _ _)))
     (c .single .ensures))
@@ -44,7 +45,8 @@ unfolding enabledAt effect
 returns-2 c k x =
     let other = c .before .before in
     let args = start (other .before) .args in
-    load-line (args .rest) _ (args .i .0) (args .u) (args .v) (from-copies (args .rest) (args .i .0) (args .u) (args .v) (stuck other) (c .load-copies-row .result)
+    load-line (args .rest) _ (args .i .0) (args .u) (args .v)
+    (from-copies (args .rest) (args .i .0) (args .u) (args .v) (stuck other) (c .load-copies-row .result)
     (c .before .if2 .taken) (c .load-copies-row .ensures))
 
 returns-3 : tie.Need-returns-3
@@ -52,7 +54,8 @@ unfolding enabledAt effect
 returns-3 c k x =
     let other = c .before .before in
     let args = start (other .before) .args in
-    load-line (args .rest) _ (args .i .0) (args .u) (args .v) (from-nothing (args .rest) (args .i .0) (args .u) (args .v) (stuck other) (c .any-row .result)
+    load-line (args .rest) _ (args .i .0) (args .u) (args .v)
+    (from-nothing (args .rest) (args .i .0) (args .u) (args .v) (stuck other) (c .any-row .result)
     (c .before .if2 .left) (c .any-row .ensures))
 
 pub load-row-spec : {M : Type 1} → statement M

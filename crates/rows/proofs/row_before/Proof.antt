@@ -16,7 +16,8 @@ unfolding eventOf
 load-row-requires c κs =
     let start = c .before .before in
     let e = start .args .e in
-    let copies = copy-load (start .args .site .location .0) (start .args .u) (e .machine .0) (e .location .0) (e .value) in
+    let x = start .args .site .location .0 in
+    let copies = copy-load x (start .args .u) (e .machine .0) (e .location .0) (e .value) in
     (start .pre .1 .0 .machine, rw (c .match .keys4, copies) at (start .pre .1 .1))
 
 returns : tie.Need-returns

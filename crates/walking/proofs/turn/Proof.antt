@@ -1,4 +1,5 @@
--- `turn` meets its contract: the event is elsewhere, or the gap leads into the row before it and `act_at` answers for it.
+-- `turn` meets its contract: the event is elsewhere, or the gap leads into the row before it and `act_at` answers for
+-- it.
 use Prim.Native.Nat.{suc}
 use native.Mathlib.Numerals.{add-one}
 use native.Mathlib.Omega.{arith}

@@ -78,7 +78,8 @@ returns c =
     let h = test .before in
     let u = got-copy h .get-copy .result in
     let kept = sym (copy-elsewhere (start h .args .site .location .0) u (asked h) (away test)) in
-    went-elsewhere (start h .pre) (begins h u (put .put-copy .last .0) (put .put-copy .ensures) kept) (read h) (away test)
+    let begun = begins h u (put .put-copy .last .0) (put .put-copy .ensures) kept in
+    went-elsewhere (start h .pre) begun (read h) (away test)
 
 -- ---- the event concerns the site
 
