@@ -1,6 +1,7 @@
 -- Laws of `Each`, and lists of bytes.
 use Prim.Native.Nat.{ℕ, zero, suc, _<_}
 use native.Mathlib.Nat.{le-of-suc-le-suc, not-suc-le-zero}
+use native.Mathlib.Omega.{arith}
 use mathlib.Core.List.{List, [], _∷_, _++_}
 use lib.ListN.{length, getD, take}
 use Rattle.log.specs.Records.{Each}
@@ -25,6 +26,12 @@ module _ {A : Type 0} (P : A → Type 0) where
   each-map Q g [] f = tt
   each-map Q g (a ∷ l) f = (g a (f .0), each-map Q g l (f .1))
 
+-- A list of bytes, by its elements.
 pub bytes-by-index : (s : List ℕ) → ((i : ℕ) → getD s i 0 < 256) → Bytes s
 bytes-by-index [] f = tt
 bytes-by-index (b ∷ s) f = (f 0, bytes-by-index s (λ i. f (suc i)))
+
+pub bytes-small : (s : List ℕ) → Bytes s → (i : ℕ) → getD s i 0 < 256
+bytes-small [] f i = omega arith
+bytes-small (b ∷ s) f zero = f .0
+bytes-small (b ∷ s) f (suc i) = bytes-small s (f .1) i

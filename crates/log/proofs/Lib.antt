@@ -5,6 +5,7 @@ pub mod Passes
 pub mod Checks
 pub mod Each
 pub mod Elements
+pub mod Payloads
 pub mod Encoded
 pub mod Growing
 pub mod Events

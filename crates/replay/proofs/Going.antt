@@ -21,8 +21,9 @@ use Rattle.model.proofs.Tests.{T→true}
 use Rattle.model.proofs.Weaving.{inOrder-cons, weave-due, weave-event}
 use Rattle.log.proofs.Elements.{no-elements}
 use Rattle.log.proofs.Checks.{clash}
-use Rattle.cursors.specs.Cursors.{Numbers, eventWith, eventAt, Events, next-event}
-use Rattle.cursors.specs.Answers.{numbersOf}
+use Rattle.log.specs.Payloads.{Numbers, eventWith}
+use Rattle.log.specs.Answers.{numbersOf}
+use Rattle.cursors.specs.Cursors.{eventAt, Events, next-event}
 use Rattle.cursors.proofs.Found.{operation-found}
 use Rattle.verdict_file.specs.Schedules.{stepAt, readSteps}
 use Rattle.verdict_file.proofs.Cursor.{walks, stops}

@@ -1,5 +1,6 @@
 // What stands at the front of a part of a file, and whether a step fits a system.
 use crate::Step;
+use model::LOCATIONS;
 use model::Topology;
 use verdict_file::TAG_END;
 use verdict_file::TAG_VERDICT;
@@ -7,9 +8,6 @@ ghost use mathlib.Core.Path.{_≡_};
 ghost use Rattle.model.specs.Meaning.{topologyOf};
 ghost use Rattle.schedules.specs.Answers.{stepOf};
 ghost use Rattle.verdict_file.specs.Schedules.{begins, isEnd, saysAllowed, stepFits, mayFollow};
-
-// The homes that the array of a topology holds.
-const HOMES: usize = 32;
 
 // A whole field of this tag and length stands first.
 pub(crate) fn begins_with(s: &[u8], tag: u8, len: u8) -> bool
@@ -53,7 +51,7 @@ pub(crate) fn step_fits(t: Topology, p: Step) -> bool
     ensures { λ r. ⌜ r ≡ stepFits (topologyOf t) (stepOf p) ⌝ }
 {
     let x = p.location.0 as usize;
-    if HOMES <= x {
+    if LOCATIONS <= x {
         return false;
     }
     if (t.locations as usize) <= x {

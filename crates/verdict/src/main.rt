@@ -4,6 +4,7 @@
 use fields::refusals::number_of;
 use judge::Judged;
 use judge::judge;
+use log::LOG_MOST;
 use schedules::FIRST;
 use schedules::Step;
 use schedules::StepAt;
@@ -13,7 +14,7 @@ use verdict_file::FILE_MOST;
 
 // The most bytes that are read. An accepted log has at most 1,160 bytes, and what the judge makes of the first
 // 1,161 bytes of an input is right for the whole input, as proofs/Input.antt shows.
-const INPUT_MOST: usize = 1161;
+const INPUT_MOST: usize = LOG_MOST + 1;
 
 // Enough for the first line, 256 lines of at most 9 bytes, and the last.
 const PAGE: usize = 4096;

@@ -13,7 +13,8 @@ use lib.ListN.{length, take, drop}
 use Rattle.model.specs.Cxl0.{Topology}
 use Rattle.model.specs.Schedule.{Step}
 use Rattle.model.proofs.Tests.{T→true, true→T}
-use Rattle.log.specs.Bytes.{pair, field}
+use Rattle.fields.specs.Numbers.{bytesOf}
+use Rattle.log.specs.Bytes.{field}
 use Rattle.verdict_file.specs.Files.{allowed, header, stepField, stepFields, end, fileOf}
 use Rattle.verdict_file.specs.Answers.{gives}
 use Rattle.verdict_file.specs.Writing.{answer, output}
@@ -25,7 +26,7 @@ use Rattle.verdict_file.proofs.Fields.{passed, tag-and-length, header-b
 
 -- Bytes that give steps are the steps' fields and the end.
 steps-bytes : (s : List ℕ) {ps : List Step} → readSteps s ≡ some ps → s ≡ stepFields ps ++ end
-unfolding readSteps stepFields stepField end field pair
+unfolding readSteps stepFields stepField end field bytesOf
 steps-bytes [] {ps} e = absurd (Option·none-ne-some ps e)
 steps-bytes (t ∷ []) {ps} e = absurd (Option·none-ne-some ps e)
 steps-bytes (t ∷ lo ∷ []) {ps} e = absurd (Option·none-ne-some ps e)
@@ -44,7 +45,7 @@ steps-bytes (t ∷ lo ∷ hi ∷ b ∷ x ∷ i ∷ s) {ps} e =
 
 -- And the steps' fields with the end give the steps.
 bytes-steps : (ps : List Step) → readSteps (stepFields ps ++ end) ≡ some ps
-unfolding readSteps starts stepFields stepField end field pair
+unfolding readSteps starts stepFields stepField end field bytesOf
 bytes-steps [] = refl
 bytes-steps (p ∷ ps) = rw (bytes-steps ps)
 
@@ -59,7 +60,7 @@ kept-some test (some qs) {ps} e =
 module _ (sys : Topology) (n : ℕ) (ps : List Step) where
   -- The file of steps that fit the log gives these steps.
   pub reads-back : T (scheduleFits sys n ps) → readSchedule sys n (fileOf (allowed ps)) ≡ some ps
-  unfolding readSchedule readAllowed fileOf header field pair
+  unfolding readSchedule readAllowed fileOf header field bytesOf
   reads-back fits =
       let bytes : List ℕ = stepFields ps ++ end in
       let ok : scheduleFits sys n ps ≡ true = T→true fits in

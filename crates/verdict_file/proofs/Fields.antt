@@ -8,7 +8,8 @@ use mathlib.Core.Option.{Option, none, some, Option·none-ne-some}
 use lib.Dec.{leb, eqb}
 use lib.ListN.{length, getD, drop}
 use borrow.Author.Tests.{le-leb, leb-true, eqb-true}
-use Rattle.log.specs.Bytes.{pair, field}
+use Rattle.fields.specs.Numbers.{bytesOf}
+use Rattle.log.specs.Bytes.{field}
 use Rattle.verdict_file.specs.Files.{header}
 use Rattle.verdict_file.specs.Schedules.{starts, begins, saysAllowed}
 
@@ -45,7 +46,7 @@ long-header s e =
 
 -- Bytes that begin with a header that says allowed are this header and the bytes after it.
 pub header-bytes : (s : List ℕ) → saysAllowed s ≡ true → s ≡ header 1 0 ++ drop 5 s
-unfolding saysAllowed begins header field pair
+unfolding saysAllowed begins header field bytesOf
 header-bytes [] e = absurd (false≢true e)
 header-bytes (t ∷ []) e = absurd (false≢true e)
 header-bytes (t ∷ lo ∷ []) e = absurd (false≢true e)
@@ -61,5 +62,5 @@ header-bytes (t ∷ lo ∷ hi ∷ v ∷ w ∷ s) e =
 
 -- And this header says allowed.
 pub says-header : (s : List ℕ) → saysAllowed (header 1 0 ++ s) ≡ true
-unfolding saysAllowed begins starts header field pair
+unfolding saysAllowed begins starts header field bytesOf
 says-header s = rw (le-leb 5 (length (header 1 0 ++ s)) (omega arith))

@@ -5,21 +5,22 @@ use mathlib.Core.Path.{_≡_, refl}
 use mathlib.Core.List.{List, [], _∷_}
 use lib.ListN.{length, length-append}
 use Rattle.model.specs.Schedule.{Step}
-use Rattle.log.specs.Bytes.{pair, field}
+use Rattle.fields.specs.Numbers.{bytesOf}
+use Rattle.log.specs.Bytes.{field}
 use Rattle.verdict_file.specs.Files.{Verdict, allowed, impossible, stepsMost, fileMost}
 use Rattle.verdict_file.specs.Files.{header, stepField, stepFields, end, fileOf}
 
 pub length-stepFields : (ps : List Step) → length (stepFields ps) ≡ 6 * length ps
-unfolding stepFields stepField field pair
+unfolding stepFields stepField field bytesOf
 length-stepFields [] = refl
 length-stepFields (p ∷ ps) = omega (arith, length-stepFields ps)
 
 pub length-allowed : (ps : List Step) → length (fileOf (allowed ps)) ≡ 8 + 6 * length ps
-unfolding fileOf header end field pair
+unfolding fileOf header end field bytesOf
 length-allowed ps = simp (length-append, length-stepFields ps) (omega arith)
 
 pub length-impossible : (event : ℕ) → length (fileOf (impossible event)) ≡ 8
-unfolding fileOf header end field pair
+unfolding fileOf header end field bytesOf
 length-impossible event = refl
 
 -- The steps of a verdict; impossible has none.

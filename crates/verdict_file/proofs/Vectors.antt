@@ -9,7 +9,8 @@ use lib.ListN.{replicate}
 use Rattle.model.specs.Cxl0.{Topology, isLocation, owner}
 use Rattle.model.specs.Schedule.{Step, inOrder}
 use Rattle.model.specs.Words.{stepOfWord}
-use Rattle.log.specs.Bytes.{pair, field}
+use Rattle.fields.specs.Numbers.{bytesOf}
+use Rattle.log.specs.Bytes.{field}
 use Rattle.verdict_file.specs.Files.{Verdict, allowed, impossible}
 use Rattle.verdict_file.specs.Files.{header, stepField, stepFields, end, fileOf}
 use Rattle.verdict_file.specs.Schedules.{starts, begins, readSteps, saysAllowed, readAllowed}
@@ -26,7 +27,7 @@ bytes : List ℕ
 bytes = 0x10 ∷ 0x02 ∷ 0x00 ∷ 0x01 ∷ 0x00 ∷ 0x11 ∷ 0x03 ∷ 0x00 ∷ 0x01 ∷ 0x00 ∷ 0x01 ∷ 0x04 ∷ 0x00 ∷ 0x00 ∷ []
 
 written : fileOf (allowed steps) ≡ bytes
-unfolding steps bytes fileOf header stepFields stepField end field pair
+unfolding steps bytes fileOf header stepFields stepField end field bytesOf
 written = refl
 
 read : readSchedule case4 4 bytes ≡ some steps
@@ -41,7 +42,7 @@ unfolding case4 bytes starts begins readSteps saysAllowed readAllowed isLocation
 unfit = refl
 
 written-impossible : fileOf (impossible 4) ≡ 0x10 ∷ 0x02 ∷ 0x00 ∷ 0x00 ∷ 0x04 ∷ 0x04 ∷ 0x00 ∷ 0x00 ∷ []
-unfolding fileOf header end field pair
+unfolding fileOf header end field bytesOf
 written-impossible = refl
 
 -- Steps after so many events, and the edges of the form: 256 steps, three bytes, counts that stay or rise to 128, and

@@ -12,7 +12,8 @@ use borrow.Author.Tests.{lt-ltb}
 use Rattle.model.proofs.Tests.{and-l, and-r, same-test}
 use Rattle.model.specs.Schedule.{Step, inOrder}
 use Rattle.model.specs.Words.{stepOfWord}
-use Rattle.log.specs.Bytes.{pair, field}
+use Rattle.fields.specs.Numbers.{bytesOf}
+use Rattle.log.specs.Bytes.{field}
 use Rattle.verdict_file.specs.Files.{stepsMost, eventsMost, header, stepField, stepFields, end, fileOf}
 use Rattle.verdict_file.specs.Writing.{allowedBy, threeBytes, allThreeBytes, writable, comesNext, put}
 use Rattle.verdict_file.proofs.Files.{length-stepFields}
@@ -111,7 +112,7 @@ put-word l ws i h k =
 pub put-file : (l ws : List ℕ) → 5 + 6 * length ws ≤ length l
     → put (put (put l 0 (header 1 0)) 5 (fields ws (length ws))) (5 + 6 * length ws) end
     ≡ put l 0 (fileOf (allowedBy ws))
-unfolding fileOf header field pair
+unfolding fileOf header field bytesOf
 put-file l ws k =
     let all : List ℕ = fields ws (length ws) in
     let front : List ℕ = header 1 0 ++ all in

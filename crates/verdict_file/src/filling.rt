@@ -1,11 +1,11 @@
 // Filling the part of the output that a file is to stand in, from its first byte on. The writers first ask
 // whether the part is long enough and the words are steps of a file, as the `requires` here demand.
-use crate::EVENTS_MOST;
 use crate::FILE_MOST;
 use crate::STEPS_MOST;
 use crate::TAG_END;
 use crate::TAG_STEP;
 use crate::TAG_VERDICT;
+use log::EVENTS;
 ghost use mathlib.Core.Path.{_≡_};
 ghost use Prim.Native.Nat.{_+_, _≤_, _<_, _^_};
 ghost use lib.Dec.{T, leb};
@@ -38,7 +38,7 @@ fn comes_next(word: u64, least: u64) -> bool
     if before < least {
         return false;
     }
-    before <= EVENTS_MOST
+    before <= EVENTS as u64
 }
 
 // Whether the words are steps of a verdict file, in its order: `least` is the count of events before the last step.
@@ -68,7 +68,7 @@ pub(crate) fn is_event(event: u8) -> bool
     if event < 1 {
         return false;
     }
-    (event as u64) <= EVENTS_MOST
+    event <= EVENTS
 }
 
 fn put_header(part: &mut [u8], verdict: u8, event: u8) -> usize

@@ -13,9 +13,6 @@ pub const STEPS_MOST: usize = 256;
 
 pub const FILE_MOST: usize = 1544;
 
-// At most 128 events in a log.
-pub const EVENTS_MOST: u64 = 128;
-
 pub const TAG_VERDICT: u8 = 0x10;
 
 pub const TAG_STEP: u8 = 0x11;

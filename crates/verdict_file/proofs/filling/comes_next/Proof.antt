@@ -1,6 +1,7 @@
 -- `comes_next` says whether the word is a step of a file that may come after one with `least` events before it.
 use Prim.Native.Nat.{_%_, _^_}
 use native.Mathlib.Omega.{arith}
+use borrow.Author.Needs.{needs}
 use borrow.Author.Tests.{lt-ltb, le-ltb, le-leb, lt-leb}
 use Rattle.model.specs.Words.{stepOfWord}
 use Rattle.verdict_file.specs.Writing.{comesNext}
@@ -29,4 +30,4 @@ returns-3 c =
     rw (three-bytes w, lt-ltb w (2 ^ 24) (omega arith), le-leb (a .least) (w % 256) (omega arith))
 
 pub comes-next-spec : {M : Type 1} → statement M
-comes-next-spec = tie.close (tie.spec returns returns-2 returns-3)
+comes-next-spec = tie.close (tie.spec returns returns-2 (λ c. search needs) returns-3)

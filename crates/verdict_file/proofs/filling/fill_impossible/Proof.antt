@@ -5,7 +5,8 @@ use mathlib.Core.Path.{refl, ap₂, _∙_}
 use mathlib.Core.List.{List}
 use denote.Ref.{now}
 use borrow.Author.Needs.{needs}
-use Rattle.log.specs.Bytes.{pair, field}
+use Rattle.fields.specs.Numbers.{bytesOf}
+use Rattle.log.specs.Bytes.{field}
 use Rattle.verdict_file.specs.Files.{header, end, fileOf}
 use Rattle.verdict_file.specs.Writing.{put}
 use Rattle.verdict_file.proofs.Put.{put-more}
@@ -19,7 +20,7 @@ put-end-requires : tie.Need-put-end-requires
 put-end-requires c κs = omega arith
 
 returns : tie.Need-returns
-unfolding fileOf header end field pair
+unfolding fileOf header end field bytesOf
 returns c =
     let headed = c .before .before .before .before .before .before in
     let start = headed .before .before .before in

@@ -4,7 +4,8 @@ use native.Mathlib.Omega.{arith}
 use mathlib.Core.Path.{refl}
 use denote.Ref.{now}
 use lib.ListN.{length-set}
-use Rattle.log.specs.Bytes.{pair, field}
+use Rattle.fields.specs.Numbers.{bytesOf}
+use Rattle.log.specs.Bytes.{field}
 use Rattle.verdict_file.specs.Files.{end}
 use Rattle.verdict_file.proofs.Put.{put-sets}
 use Rattle.verdict_file.proofs.filling.put_end.Statement.{statement}
@@ -32,7 +33,7 @@ same-length : tie.Need-same-length
 same-length c = simp length-set
 
 returns : tie.Need-returns
-unfolding end field pair
+unfolding end field bytesOf
 returns c = (refl, simp towards-suc (put-sets end (now (c .args .part)) (c .args .at) (omega arith)))
 
 pub put-end-spec : {M : Type 1} → statement M

@@ -3,7 +3,8 @@ use native.Mathlib.Omega.{arith}
 use mathlib.Core.Path.{refl}
 use denote.Ref.{now}
 use lib.ListN.{length-set}
-use Rattle.log.specs.Bytes.{pair, field}
+use Rattle.fields.specs.Numbers.{bytesOf}
+use Rattle.log.specs.Bytes.{field}
 use Rattle.verdict_file.specs.Files.{header}
 use Rattle.verdict_file.proofs.Put.{put-sets}
 use Rattle.verdict_file.proofs.filling.put_header.Statement.{statement}
@@ -28,7 +29,7 @@ same-length : tie.Need-same-length
 same-length c = simp length-set
 
 returns : tie.Need-returns
-unfolding header field pair
+unfolding header field bytesOf
 returns c =
     let bytes = header (c .args .verdict) (c .args .event) in
     (refl, put-sets bytes (now (c .args .part)) 0 (omega arith))

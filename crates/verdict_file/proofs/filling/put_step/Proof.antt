@@ -5,7 +5,8 @@ use mathlib.Core.Path.{refl}
 use denote.Ref.{now}
 use lib.ListN.{length-set}
 use Rattle.model.specs.Words.{stepOfWord}
-use Rattle.log.specs.Bytes.{pair, field}
+use Rattle.fields.specs.Numbers.{bytesOf}
+use Rattle.log.specs.Bytes.{field}
 use Rattle.verdict_file.specs.Files.{stepField}
 use Rattle.verdict_file.proofs.Put.{put-sets}
 use Rattle.verdict_file.proofs.filling.put_step.Statement.{statement}
@@ -60,7 +61,7 @@ same-length : tie.Need-same-length
 same-length c = simp length-set
 
 returns : tie.Need-returns
-unfolding stepField stepOfWord field pair
+unfolding stepField stepOfWord field bytesOf
 returns c =
     let bytes = stepField (stepOfWord (c .args .word)) in
     (refl, simp towards-suc (put-sets bytes (now (c .args .part)) (c .args .at) (omega arith)))
