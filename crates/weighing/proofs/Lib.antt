@@ -1,0 +1,13 @@
+pub mod Described
+pub mod KnownEvents
+pub mod Allowances
+pub mod Fitting
+pub mod Gathering
+pub mod NamedEvents
+pub mod Thinning
+pub mod KeptEvents
+pub mod RetimedSchedules
+pub mod Extending
+pub mod Visits
+pub mod AllVisits
+pub mod Concluding
