@@ -14,11 +14,14 @@ pub mod Split
 pub mod Sums
 pub mod Potential
 pub mod Bound
+pub mod Allowance
+pub mod Allowances
 pub mod SilentSteps
 pub mod Gaps
 pub mod SomeSilent
 pub mod Decision
 pub mod Prefixes
+pub mod NamedEvents
 pub mod Owners
 pub mod Operations
 pub mod MarkedLogs

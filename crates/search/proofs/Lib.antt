@@ -3,7 +3,6 @@ pub mod Retracing
 pub mod Ready
 pub mod Prefixes
 pub mod OneMore
-pub mod Allowance
 pub mod Schedules
 pub mod Keeping
 pub mod Paths

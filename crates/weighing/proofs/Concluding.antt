@@ -17,6 +17,7 @@ use Rattle.model.proofs.Tests.{and-i}
 use Rattle.model.proofs.Limits.{within, listed-below}
 use Rattle.model.proofs.Split.{split}
 use Rattle.model.proofs.Prefixes.{has-run-fewer}
+use Rattle.model.proofs.NamedEvents.{named-take}
 use Rattle.verdict_file.specs.Files.{stepsMost}
 use Rattle.verdict_file.specs.Schedules.{everyStepFits, scheduleFits}
 use Rattle.scratch.specs.Layout.{STEPS, SORTED, LOG, WORDS, OnlyIn}
@@ -34,7 +35,6 @@ use Rattle.weighing.specs.Visiting.{Visited}
 use Rattle.weighing.specs.declared.Weighed.{Weighed}
 use Rattle.weighing.specs.declared.visiting.Progress.{Progress}
 use Rattle.weighing.proofs.Fitting.{run-fits}
-use Rattle.weighing.proofs.NamedEvents.{named-take}
 
 -- If the first m events have a run and one more have none, that one is the first impossible.
 first-impossible : (sys : Topology) (es : List Event) (m : ℕ) → m < length es

@@ -10,18 +10,18 @@ use lib.Seq.{slice, take-add, drop-at, drop-append-le, length-take-le, length-sl
 use lib.Seq.{getD-take, getD-drop}
 use Rattle.model.specs.Schedule.{Step}
 use Rattle.model.specs.Words.{stepOfWord}
+use Rattle.model.proofs.Allowances.{allowance-few}
 use Rattle.rows.specs.declared.Site.{Site}
 use Rattle.scratch.specs.Layout.{EVENTS, ROWS, STEPS, MOST, OnlyIn, LOG}
 use Rattle.scratch.specs.Words.{eventsIn, countOf, wordsAt}
-use Rattle.walking.specs.Walks.{Schedules}
 use Rattle.scratch.proofs.Frames.{only-then, only-wider, getD-below}
 use Rattle.scratch.proofs.Events.{events-length}
+use Rattle.walking.specs.Walks.{Schedules}
 use Rattle.search.specs.declared.explaining.Found.{Found}
 use Rattle.search.specs.Paths.{Kept, Explainable, Scheduled, Explained}
 use Rattle.events.specs.Thinning.{retimed}
 use Rattle.events.specs.Linking.{placesFrom, placesIn}
 use Rattle.events.specs.Retiming.{wordsBetween, Retimable, Retimed}
-use Rattle.weighing.proofs.Allowances.{allowance-few}
 
 -- The list of `more` words is that of `count` words and after it a schedule for the k events, retimed by
 -- their places.

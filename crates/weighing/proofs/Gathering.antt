@@ -15,13 +15,13 @@ use Rattle.model.specs.Schedule.{Step, weave, inOrder}
 use Rattle.model.specs.OneLocation.{startAt, runsAt}
 use Rattle.model.specs.Sums.{sum}
 use Rattle.model.proofs.Weaving.{inOrder-cons}
+use Rattle.model.proofs.Allowances.{sum-allowances}
 use Rattle.rows.specs.declared.Site.{Site}
 use Rattle.walking.specs.Walks.{Placed, Schedules}
 use Rattle.search.specs.Rising.{select}
 use Rattle.search.specs.Ordering.{atLocation}
 use Rattle.search.proofs.Rising.{select-append}
 use Rattle.weighing.specs.Gathering.{Gathered}
-use Rattle.weighing.proofs.Allowances.{sum-allowances}
 
 -- ---- the steps of one location
 

@@ -10,8 +10,8 @@ use lib.ListN.{length, getD, take}
 use Rattle.model.specs.Cxl0.{Location, Topology, Event, event, named, allNamed, count}
 use Rattle.model.proofs.Tests.{and-r}
 use Rattle.model.proofs.Merge.{and-map}
-use Rattle.walking.specs.Allowance.{allowance}
-use Rattle.search.proofs.Allowance.{allowance-cons}
+use Rattle.model.specs.Allowance.{allowance}
+use Rattle.model.proofs.Allowance.{allowance-cons}
 use Rattle.events.specs.Thinning.{noneOwn, Thins, rest, keep, skip, Leads, begin, before}
 
 -- ---- how many

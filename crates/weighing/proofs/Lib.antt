@@ -1,9 +1,7 @@
 pub mod Described
 pub mod KnownEvents
-pub mod Allowances
 pub mod Fitting
 pub mod Gathering
-pub mod NamedEvents
 pub mod Thinning
 pub mod KeptEvents
 pub mod RetimedSchedules

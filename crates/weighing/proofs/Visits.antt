@@ -17,14 +17,15 @@ use Rattle.model.specs.Words.{stepOfWord}
 use Rattle.model.specs.declared.Topology as topology
 use Rattle.model.proofs.Gaps.{has-run-nil}
 use Rattle.model.proofs.Limits.{within, listed-below}
+use Rattle.model.proofs.NamedEvents.{named-take}
 use Rattle.rows.specs.declared.Site.{Site}
 use Rattle.rows.specs.Sites.{Describes}
 use Rattle.scratch.specs.Layout.{EVENTS, ROWS, STEPS, WORDS, OnlyIn, LOG}
 use Rattle.scratch.specs.Words.{eventsFrom, eventsIn, wordsAt, stepsAt}
-use Rattle.walking.specs.Walks.{Placed, Schedules}
 use Rattle.scratch.proofs.Frames.{only-then, only-wider, getD-below}
 use Rattle.scratch.proofs.Segments.{words-after}
 use Rattle.scratch.proofs.Events.{events-take, events-length}
+use Rattle.walking.specs.Walks.{Placed, Schedules}
 use Rattle.search.specs.declared.explaining.Found.{Found}
 use Rattle.search.specs.Paths.{Explainable, Explained}
 use Rattle.search.proofs.Prefixes.{has-run-at-prefix}
@@ -36,7 +37,6 @@ use Rattle.weighing.specs.Gathering.{Gathered}
 use Rattle.weighing.specs.Visiting.{Visitable, Visited}
 use Rattle.weighing.specs.declared.visiting.Progress.{Progress}
 use Rattle.weighing.proofs.Described.{described}
-use Rattle.weighing.proofs.NamedEvents.{named-take}
 use Rattle.weighing.proofs.KnownEvents.{knowns}
 use Rattle.weighing.proofs.Gathering.{gathered-few, gathered-more}
 use Rattle.weighing.proofs.Extending.{Extended, kept-only, found-retimable, found-extended}

@@ -7,7 +7,7 @@ use Rattle.model.specs.Cxl0.{Location, Topology, Event, silent, named}
 use Rattle.model.specs.Schedule.{Step, silentOf, weave, inOrder}
 use Rattle.model.specs.OneLocation.{startAt, runsAt}
 use Rattle.model.specs.Sums.{sum}
-use Rattle.walking.specs.Allowance.{allowance}
+use Rattle.model.specs.Allowance.{allowance}
 use Rattle.search.specs.Ordering.{atLocation}
 
 -- The steps are schedules of the locations below x for the events.

@@ -8,15 +8,15 @@ use mathlib.Core.Bool.{Bool, true, false, cond}
 use mathlib.Core.List.{List, [], _∷_}
 use lib.Dec.{eqb, ltb, ltb→lt, nltb→le}
 use lib.ListN.{length}
 use Rattle.model.specs.Cxl0.{Location, Event, LStore, RStore, MStore, Load, LFlush, RFlush, Crash}
 use Rattle.model.specs.Cxl0.{event, count, isStore, isLoad}
 use Rattle.model.specs.OneLocation.{eventAt}
 use Rattle.model.proofs.Tests.{by-test, not→false, ne→test}
 use Rattle.model.specs.Sums.{sum}
 use Rattle.model.proofs.Sums.{sum-zero, sum-le, sum-at}
 use Rattle.model.proofs.Potential.{gain}
-use Rattle.walking.specs.Allowance.{allowance}
-use Rattle.search.proofs.Allowance.{allowance-cons}
+use Rattle.model.specs.Allowance.{allowance}
+use Rattle.model.proofs.Allowance.{allowance-cons}
 
 -- An event is at one location, or it adds nothing.
 abbrev AtOne : Event → Type 0

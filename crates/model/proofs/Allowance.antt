@@ -6,14 +6,14 @@ use mathlib.Core.Bool.{Bool, true, false, cond, _&&_}
 use mathlib.Core.List.{List, [], _∷_}
 use lib.Dec.{T}
 use lib.ListN.{length}
 use Rattle.model.specs.Cxl0.{Location, Topology, isMachine, owner, Event, Action, event, silent}
 use Rattle.model.specs.Cxl0.{named, events, silents, count, isStore, isLoad}
 use Rattle.model.specs.OneLocation.{Local, eventAt, silentAt, concerns, enabledAt, effect, possibleAt, nextAt}
 use Rattle.model.specs.OneLocation.{runsAt, afterAt, ownSteps}
 use Rattle.model.proofs.Tests.{and-l, and-r, T→true}
 use Rattle.model.proofs.Merge.{each}
 use Rattle.model.proofs.Potential.{one, rank, gain, loss, rank-step}
-use Rattle.walking.specs.Allowance.{allowance}
+use Rattle.model.specs.Allowance.{allowance}
 
 -- What one event may add.
 abbrev adds : Location → Event → ℕ
