@@ -26,6 +26,7 @@ pub mod Owners
 pub mod Operations
 pub mod MarkedLogs
 pub mod Weaving
+pub mod Steps
 pub mod Bits
 pub mod Limits
 pub mod Theorems

@@ -10,5 +10,3 @@ pub mod Resuming
 pub mod Explanations
 pub mod Possible
 pub mod Continuing
-pub mod Rising
-pub mod Ordering

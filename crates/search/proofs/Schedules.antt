@@ -22,6 +22,7 @@ use Rattle.model.proofs.Weaving.{events-weave, silents-weave}
 use Rattle.model.proofs.Potential.{rank-start}
 use Rattle.model.specs.Allowance.{allowance}
 use Rattle.model.proofs.Allowance.{rank-runs}
+use Rattle.model.proofs.Steps.{inOrder-append, silentAt-silentOf}
 use Rattle.rows.specs.declared.Site.{Site}
 use Rattle.rows.specs.Rows.{state}
 use Rattle.rows.specs.Sites.{Describes}
@@ -30,7 +31,6 @@ use Rattle.walking.specs.Walks.{Placed, Schedules}
 use Rattle.walking.proofs.Trails.{runsTo-none, runsTo-append}
 use Rattle.walking.proofs.StepWords.{at-inOrder, at-own, at-before}
 use Rattle.search.specs.Paths.{Leading}
-use Rattle.search.proofs.Ordering.{inOrder-append, silentAt-silentOf}
 use Rattle.search.proofs.OneMore.{weave-more}
 
 -- The silent steps of the actions are those of the schedule.

@@ -18,9 +18,9 @@ use Rattle.model.proofs.Weaving.{inOrder-cons}
 use Rattle.model.proofs.Allowances.{sum-allowances}
 use Rattle.rows.specs.declared.Site.{Site}
 use Rattle.walking.specs.Walks.{Placed, Schedules}
-use Rattle.search.specs.Rising.{select}
-use Rattle.search.specs.Ordering.{atLocation}
-use Rattle.search.proofs.Rising.{select-append}
+use Rattle.sorting.specs.Rising.{select}
+use Rattle.sorting.specs.Ordering.{atLocation}
+use Rattle.sorting.proofs.Rising.{select-append}
 use Rattle.weighing.specs.Gathering.{Gathered}
 
 -- ---- the steps of one location

@@ -8,7 +8,7 @@ use Rattle.model.specs.Schedule.{Step, silentOf, weave, inOrder}
 use Rattle.model.specs.OneLocation.{startAt, runsAt}
 use Rattle.model.specs.Sums.{sum}
 use Rattle.model.specs.Allowance.{allowance}
-use Rattle.search.specs.Ordering.{atLocation}
+use Rattle.sorting.specs.Ordering.{atLocation}
 
 -- The steps are schedules of the locations below x for the events.
 pub record Gathered (sys : Topology) (es : List Event) (x : ℕ) (ps : List Step) : Type 0 where
