@@ -1,4 +1,3 @@
-pub mod NamedLocations
 pub mod Loading
 pub mod Answers
 pub mod Soundness

@@ -2,8 +2,6 @@ pub mod Described
 pub mod KnownEvents
 pub mod Fitting
 pub mod Gathering
-pub mod Thinning
-pub mod KeptEvents
 pub mod RetimedSchedules
 pub mod Extending
 pub mod Visits

@@ -33,6 +33,8 @@ use Rattle.events.specs.Thinning.{Leads, retimed}
 use Rattle.events.specs.Linking.{placeIn, placesIn, logged, Linked, Picked}
 use Rattle.events.specs.Retiming.{Retimable, Retimed}
 use Rattle.events.proofs.Retimings.{places-at}
+use Rattle.events.proofs.Thinning.{leads-run}
+use Rattle.events.proofs.KeptEvents.{leads-take, leads-named}
 use Rattle.weighing.specs.Gathering.{Gathered}
 use Rattle.weighing.specs.Visiting.{Visitable, Visited}
 use Rattle.weighing.specs.declared.visiting.Progress.{Progress}
@@ -40,8 +42,6 @@ use Rattle.weighing.proofs.Described.{described}
 use Rattle.weighing.proofs.KnownEvents.{knowns}
 use Rattle.weighing.proofs.Gathering.{gathered-few, gathered-more}
 use Rattle.weighing.proofs.Extending.{Extended, kept-only, found-retimable, found-extended}
-use Rattle.weighing.proofs.Thinning.{leads-run}
-use Rattle.weighing.proofs.KeptEvents.{leads-take, leads-named}
 use Rattle.weighing.proofs.RetimedSchedules.{leads-schedules}
 
 -- No steps are a schedule for no events.
