@@ -6,7 +6,8 @@ use verdict_file::TAG_VERDICT;
 ghost use mathlib.Core.Path.{_≡_};
 ghost use Rattle.model.specs.Meaning.{topologyOf};
 ghost use Rattle.schedules.specs.Answers.{stepOf};
-ghost use Rattle.verdict_file.specs.Schedules.{begins, isEnd, saysAllowed, stepFits, mayFollow};
+ghost use Rattle.verdict_file.specs.Fitting.{stepFits};
+ghost use Rattle.schedules.specs.Schedules.{begins, isEnd, saysAllowed, mayFollow};
 
 // The homes that the array of a topology holds.
 const HOMES: usize = 32;

@@ -19,7 +19,8 @@ use Rattle.model.proofs.Split.{split}
 use Rattle.model.proofs.Prefixes.{has-run-fewer}
 use Rattle.model.proofs.NamedEvents.{named-take}
 use Rattle.verdict_file.specs.Files.{stepsMost}
-use Rattle.verdict_file.specs.Schedules.{everyStepFits, scheduleFits}
+use Rattle.verdict_file.specs.Fitting.{everyStepFits, scheduleFits}
+use Rattle.verdict_file.proofs.Fitting.{run-fits}
 use Rattle.scratch.specs.Layout.{STEPS, SORTED, LOG, WORDS, OnlyIn}
 use Rattle.scratch.specs.Words.{wordsAt, stepsAt}
 use Rattle.scratch.proofs.Frames.{only-then, only-wider}
@@ -34,7 +35,6 @@ use Rattle.weighing.specs.Weighing.{Weighable, Sound, Concluded}
 use Rattle.weighing.specs.Visiting.{Visited}
 use Rattle.weighing.specs.declared.Weighed.{Weighed}
 use Rattle.weighing.specs.declared.visiting.Progress.{Progress}
-use Rattle.weighing.proofs.Fitting.{run-fits}
 
 -- If the first m events have a run and one more have none, that one is the first impossible.
 first-impossible : (sys : Topology) (es : List Event) (m : ℕ) → m < length es

@@ -1,6 +1,5 @@
 pub mod Described
 pub mod KnownEvents
-pub mod Fitting
 pub mod Gathering
 pub mod RetimedSchedules
 pub mod Extending

@@ -8,7 +8,7 @@ use Rattle.model.specs.Schedule.{weave}
 use Rattle.model.specs.Meaning.{topologyOf, withinLimits}
 use Rattle.model.specs.declared.Topology as topology
 use Rattle.verdict_file.specs.Files.{Verdict, allowed, impossible}
-use Rattle.verdict_file.specs.Schedules.{scheduleFits}
+use Rattle.verdict_file.specs.Fitting.{scheduleFits}
 use Rattle.scratch.specs.Layout.{SORTED, LOG, MOST-STEPS, OnlyIn}
 use Rattle.scratch.specs.Words.{stepsAt}
 use Rattle.events.specs.Linking.{logged, Linked}

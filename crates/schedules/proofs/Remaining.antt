@@ -11,12 +11,13 @@ use lib.ListN.{length, drop}
 use borrow.Author.Tests.{le-leb, lt-leb}
 use Rattle.model.specs.Cxl0.{Topology}
 use Rattle.model.specs.Schedule.{Step, inOrder}
 use Rattle.verdict_file.specs.Files.{stepsMost}
 use Rattle.verdict_file.specs.Answers.{Answer, gives, refused}
-use Rattle.verdict_file.specs.Schedules.{isEnd, stepAt, readSteps, saysAllowed, readAllowed}
-use Rattle.verdict_file.specs.Schedules.{stepFits, mayFollow, everyStepFits, scheduleFits}
-use Rattle.verdict_file.specs.Schedules.{kept, readSchedule, counted}
-use Rattle.verdict_file.proofs.Cursor.{found, absent}
+use Rattle.verdict_file.specs.Fitting.{stepFits, everyStepFits, scheduleFits}
+use Rattle.schedules.specs.Schedules.{isEnd, stepAt, readSteps, saysAllowed, readAllowed}
+use Rattle.schedules.specs.Schedules.{mayFollow}
+use Rattle.schedules.specs.Schedules.{kept, readSchedule, counted}
+use Rattle.schedules.proofs.Cursor.{found, absent}
 
 -- What steps come to that stand behind `count` others, of which the last has `least` events before it.
 abbrev rest : Topology → (n least count : ℕ) → Option (List Step) → Answer

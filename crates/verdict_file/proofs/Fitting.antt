@@ -12,7 +12,7 @@ use Rattle.model.specs.Schedule.{Step, silentOf, weave}
 use Rattle.model.proofs.Tests.{and-i, and-l, and-r, ne→test}
 use Rattle.model.proofs.Expand.{machine-bounds}
 use Rattle.model.proofs.Weaving.{silents-weave}
-use Rattle.verdict_file.specs.Schedules.{stepFits, everyStepFits}
+use Rattle.verdict_file.specs.Fitting.{stepFits, everyStepFits}
 
 module _ (sys : Topology) where
   -- What it takes for a step to fit.

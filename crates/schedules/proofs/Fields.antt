@@ -9,8 +9,8 @@ use lib.Dec.{leb, eqb}
 use lib.ListN.{length, getD, drop}
 use borrow.Author.Tests.{le-leb, leb-true, eqb-true}
 use Rattle.log.specs.Bytes.{pair, field}
 use Rattle.verdict_file.specs.Files.{header}
-use Rattle.verdict_file.specs.Schedules.{starts, begins, saysAllowed}
+use Rattle.schedules.specs.Schedules.{starts, begins, saysAllowed}
 
 -- Tests that are passed.
 pub both : (a b : Bool) → (a && b) ≡ true → (a ≡ true) × (b ≡ true)

@@ -9,8 +9,8 @@ use lib.ListN.{length, drop, length-drop}
 use lib.Seq.{drop-drop}
 use borrow.Author.Tests.{le-leb, ne-eqb}
 use Rattle.model.specs.Schedule.{Step}
-use Rattle.verdict_file.specs.Schedules.{starts, begins, isEnd, firstStep, stepAt, readSteps}
-use Rattle.verdict_file.proofs.Fields.{passed, long}
+use Rattle.schedules.specs.Schedules.{starts, begins, isEnd, firstStep, stepAt, readSteps}
+use Rattle.schedules.proofs.Fields.{passed, long}
 
 -- A step at the front and the steps after it, or none at the end.
 abbrev after : Option Step → Bool → Option (List Step) → Option (List Step)

@@ -1,14 +1,14 @@
 -- What reading a verdict file as a schedule for a log gives (document 01, "Refusals by number", 13).
 use Prim.Native.Nat.{ℕ, _+_}
-use mathlib.Core.Bool.{Bool, true, cond, not, _&&_}
+use mathlib.Core.Bool.{Bool, cond, _&&_}
 use mathlib.Core.List.{List, [], _∷_}
 use mathlib.Core.Option.{Option, none, some, Option·map}
 use lib.Dec.{leb, eqb}
 use lib.ListN.{length, getD, drop}
-use Rattle.model.specs.Cxl0.{Topology, isLocation, owner}
-use Rattle.model.specs.Schedule.{Step, inOrder}
-use Rattle.verdict_file.specs.Files.{stepsMost}
+use Rattle.model.specs.Cxl0.{Topology}
+use Rattle.model.specs.Schedule.{Step}
+use Rattle.verdict_file.specs.Fitting.{stepFits, scheduleFits}
 use Rattle.verdict_file.specs.Answers.{Answer, gives, refused}
 
 -- Three bytes are a tag and a length below 256.
 unfoldable pub starts : (tag len : ℕ) → ℕ → ℕ → ℕ → Bool
@@ -54,25 +54,9 @@ saysAllowed s = begins 0x10 2 s && eqb (getD s 3 0) 1 && eqb (getD s 4 0) 0
 unfoldable pub readAllowed : List ℕ → Option (List Step)
 readAllowed s = cond (saysAllowed s) (readSteps (drop 5 s)) none
 
--- A step names a listed location, and a machine up to n that is not its owner; machine 0 means write-back.
-unfoldable pub stepFits : Topology → Step → Bool
-stepFits sys p =
-    isLocation sys (p .location)
-    && leb (p .machine) (sys .machines)
-    && not (eqb (p .machine) (owner sys (p .location)))
-
 -- A step may come next in a log of n events, where the step before it has `least` events before it.
 unfoldable pub mayFollow : Topology → (n least : ℕ) → Step → Bool
 mayFollow sys n least p = leb least (p .before) && leb (p .before) n && stepFits sys p
-
-unfoldable pub everyStepFits : Topology → List Step → Bool
-everyStepFits sys [] = true
-everyStepFits sys (p ∷ ps) = stepFits sys p && everyStepFits sys ps
-
--- The steps fit a log of n events on a system: few enough, each after no more events than there are and no
--- fewer than the step before it, and each of the system.
-unfoldable pub scheduleFits : Topology → ℕ → List Step → Bool
-scheduleFits sys n ps = leb (length ps) stepsMost && inOrder 0 n ps && everyStepFits sys ps
 
 -- The steps, if they pass a test.
 abbrev pub kept : (List Step → Bool) → Option (List Step) → Option (List Step)

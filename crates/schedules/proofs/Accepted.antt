@@ -14,14 +14,15 @@ use Rattle.model.specs.Cxl0.{Topology}
 use Rattle.model.specs.Schedule.{Step}
 use Rattle.model.proofs.Tests.{T→true, true→T}
 use Rattle.log.specs.Bytes.{pair, field}
 use Rattle.verdict_file.specs.Files.{allowed, header, stepField, stepFields, end, fileOf}
 use Rattle.verdict_file.specs.Answers.{gives}
 use Rattle.verdict_file.specs.Writing.{answer, output}
-use Rattle.verdict_file.specs.Schedules.{starts, readSteps, saysAllowed, readAllowed}
-use Rattle.verdict_file.specs.Schedules.{scheduleFits, kept, readSchedule}
+use Rattle.verdict_file.specs.Fitting.{scheduleFits}
 use Rattle.verdict_file.proofs.Put.{put-there}
 use Rattle.verdict_file.proofs.Writing.{has-room, given}
-use Rattle.verdict_file.proofs.Fields.{passed, tag-and-length, header-bytes, says-header}
+use Rattle.schedules.specs.Schedules.{starts, readSteps, saysAllowed, readAllowed}
+use Rattle.schedules.specs.Schedules.{kept, readSchedule}
+use Rattle.schedules.proofs.Fields.{passed, tag-and-length, header-bytes, says-header}
 
 -- Bytes that give steps are the steps' fields and the end.
 steps-bytes : (s : List ℕ) {ps : List Step} → readSteps s ≡ some ps → s ≡ stepFields ps ++ end
