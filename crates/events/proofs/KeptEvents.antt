@@ -4,7 +4,8 @@ use Prim.Native.Nat.{ℕ, zero, suc, _+_, _≤_, _<_}
 use native.Mathlib.Nat.{not-suc-le-zero, le-of-suc-le-suc, zero-add}
 use native.Mathlib.Omega.{arith}
 use mathlib.Core.Path.{_≡_, refl}
-use mathlib.Core.List.{List, [], _∷_, map}
+use mathlib.Core.Bool.{Bool}
+use mathlib.Core.List.{List, [], map}
 use lib.Dec.{T}
 use lib.ListN.{length, getD, take}
 use Rattle.model.specs.Cxl0.{Location, Topology, Event, event, named, allNamed, count}
@@ -12,36 +13,21 @@ use Rattle.model.proofs.Tests.{and-r}
 use Rattle.model.proofs.Merge.{and-map}
 use Rattle.model.specs.Allowance.{allowance}
 use Rattle.model.proofs.Allowance.{allowance-cons}
-use Rattle.events.specs.Thinning.{noneOwn, Thins, rest, keep, skip, Leads, begin, before}
-
--- ---- how many
-
-thins-length : {x : Location} {n : ℕ} {es kept : List Event} {places : List ℕ} → Thins x n es kept places
-    → (length places ≡ length kept) × (length kept ≤ length es)
-thins-length (rest t) = (refl, omega arith)
-thins-length (keep h) = let l = thins-length h in (omega arith, omega arith)
-thins-length (skip t h) = let l = thins-length h in (l .0, omega arith)
-
--- Each kept event has a place, and no more are kept than there are.
-pub leads-length : {x : Location} {n : ℕ} {es kept : List Event} {places : List ℕ} → Leads x n es kept places
-    → (length places ≡ length kept) × (length kept ≤ length es)
-leads-length (begin h) = thins-length h
-leads-length (before t h) = let l = leads-length h in (l .0, omega arith)
+use Rattle.events.specs.Thinning.{noneOwn, Thins, rest, keep, skip, Thinned}
 
 -- ---- the first of the events
 
 -- The first d kept events are those kept of the first j events, and one more is kept of one more.
-abbrev Cut : (ℕ → List Event → List Event → List ℕ → Type 0)
-    → ℕ → List Event → List Event → List ℕ → ℕ → Type 0
-Cut Keeps n es kept places d =
+abbrev Cut : Location → Bool → ℕ → List Event → List Event → List ℕ → ℕ → Type 0
+Cut x begun n es kept places d =
     (j : ℕ)
     × (getD places d 0 ≡ n + j)
     × (j < length es)
-    × Keeps n (take j es) (take d kept) (take d places)
-    × Keeps n (take (suc j) es) (take (suc d) kept) (take (suc d) places)
+    × Thins x begun n (take j es) (take d kept) (take d places)
+    × Thins x begun n (take (suc j) es) (take (suc d) kept) (take (suc d) places)
 
-thins-cut : {x : Location} {n : ℕ} {es kept : List Event} {places : List ℕ} → Thins x n es kept places
-    → (d : ℕ) → d < length kept → Cut (Thins x) n es kept places d
+thins-cut : {x : Location} {begun : Bool} {n : ℕ} {es kept : List Event} {places : List ℕ}
+    → Thins x begun n es kept places → (d : ℕ) → d < length kept → Cut x begun n es kept places d
 unfolding noneOwn
 thins-cut (rest t) d l = absurd (not-suc-le-zero l)
 thins-cut (keep h) zero l = (0, omega arith, omega arith, rest tt, keep (rest tt))
@@ -52,50 +38,41 @@ thins-cut (skip t h) d l =
     let c = thins-cut h d l in
     (suc (c .0), omega (arith, c .1), omega (arith, c .2), skip t (c .3), skip t (c .4))
 
-leads-cut : {x : Location} {n : ℕ} {es kept : List Event} {places : List ℕ} → Leads x n es kept places
-    → (d : ℕ) → d < length kept → Cut (Leads x) n es kept places d
-leads-cut (begin h) d l = let c = thins-cut h d l in (c .0, c .1, c .2, begin (c .3), begin (c .4))
-leads-cut (before t h) d l =
-    let c = leads-cut h d l in
-    (suc (c .0), omega (arith, c .1), omega (arith, c .2), before t (c .3), before t (c .4))
-
 -- Let m be the place of kept event d. The first d kept events are those kept of the first m events, and one
 -- more is kept of one more.
-pub leads-take : {x : Location} {es kept : List Event} {places : List ℕ} → Leads x 0 es kept places
+pub thinned-take : {x : Location} {es kept : List Event} {places : List ℕ} → Thinned x es kept places
     → (d : ℕ) → d < length kept
     → let m = getD places d 0 in
     (m < length es)
-    × Leads x 0 (take m es) (take d kept) (take d places)
-    × Leads x 0 (take (suc m) es) (take (suc d) kept) (take (suc d) places)
-leads-take h d l =
-    let c = leads-cut h d l in
+    × Thinned x (take m es) (take d kept) (take d places)
+    × Thinned x (take (suc m) es) (take (suc d) kept) (take (suc d) places)
+thinned-take h d l =
+    let c = thins-cut h d l in
     rw (c .1, zero-add (c .0)) (c .2, c .3, c .4)
 
 -- ---- the places
 
 -- The places of the kept events are places of the events.
-pub leads-places : {x : Location} {n : ℕ} {es kept : List Event} {places : List ℕ} → Leads x n es kept places
+pub thins-places : {x : Location} {begun : Bool} {n : ℕ} {es kept : List Event} {places : List ℕ}
+    → Thins x begun n es kept places
     → (d : ℕ) → d < length kept → (n ≤ getD places d 0) × (getD places d 0 < n + length es)
-leads-places h d l = let c = leads-cut h d l in (omega (arith, c .1), omega (arith, c .1, c .2))
+thins-places h d l = let c = thins-cut h d l in (omega (arith, c .1), omega (arith, c .1, c .2))
 
-thins-rise : {x : Location} {n : ℕ} {es kept : List Event} {places : List ℕ} → Thins x n es kept places
+-- The places rise.
+pub thins-rise : {x : Location} {begun : Bool} {n : ℕ} {es kept : List Event} {places : List ℕ}
+    → Thins x begun n es kept places
     → (c d : ℕ) → c < d → d < length kept → getD places c 0 < getD places d 0
 thins-rise (rest t) c d g l = absurd (not-suc-le-zero l)
 thins-rise (keep h) c zero g l = absurd (not-suc-le-zero g)
-thins-rise (keep h) zero (suc d) g l = omega (arith, leads-places (begin h) d (le-of-suc-le-suc l))
+thins-rise (keep h) zero (suc d) g l = omega (arith, thins-places h d (le-of-suc-le-suc l))
 thins-rise (keep h) (suc c) (suc d) g l = thins-rise h c d (le-of-suc-le-suc g) (le-of-suc-le-suc l)
 thins-rise (skip t h) c d g l = thins-rise h c d g l
 
--- The places rise.
-pub leads-rise : {x : Location} {n : ℕ} {es kept : List Event} {places : List ℕ} → Leads x n es kept places
-    → (c d : ℕ) → c < d → d < length kept → getD places c 0 < getD places d 0
-leads-rise (begin h) c d g l = thins-rise h c d g l
-leads-rise (before t h) c d g l = leads-rise h c d g l
-
 -- ---- what is allowed for
 
-thins-allowance : {x : Location} {n : ℕ} {es kept : List Event} {places : List ℕ} → Thins x n es kept places
-    → allowance x kept ≤ allowance x es
+-- The kept events allow for no more steps than all events do.
+pub thins-allowance : {x : Location} {begun : Bool} {n : ℕ} {es kept : List Event} {places : List ℕ}
+    → Thins x begun n es kept places → allowance x kept ≤ allowance x es
 thins-allowance {x} (rest {es} t) =
     let none : allowance x [] ≡ 0 = unfold allowance count in refl in
     omega arith
@@ -103,35 +80,17 @@ thins-allowance {x} (keep {e} {es} {kept} h) =
     omega (arith, allowance-cons x e es, allowance-cons x e kept, thins-allowance h)
 thins-allowance {x} (skip {e} {es} t h) = omega (arith, allowance-cons x e es, thins-allowance h)
 
--- The kept events allow for no more steps than all events do.
-pub leads-allowance : {x : Location} {n : ℕ} {es kept : List Event} {places : List ℕ}
-    → Leads x n es kept places → allowance x kept ≤ allowance x es
-leads-allowance (begin h) = thins-allowance h
-leads-allowance {x} (before {e} {es} t h) = omega (arith, allowance-cons x e es, leads-allowance h)
-
 -- ---- what is named
 
 module _ (sys : Topology) where
-  -- All these events name machines and locations of the system.
-  abbrev AllNamed : List Event → Type 0
-  AllNamed es = T (allNamed sys (map event es))
-
-  named-rest : (e : Event) (es : List Event) → AllNamed (e ∷ es) → AllNamed es
-  unfolding allNamed
-  named-rest e es t = and-r (named sys (event e)) (allNamed sys (map event es)) t
-
-  thins-named : {x : Location} {n : ℕ} {es kept : List Event} {places : List ℕ} → Thins x n es kept places
-      → AllNamed es → AllNamed kept
+  -- The kept events name machines and locations of the system if all do.
+  pub thins-named : {x : Location} {begun : Bool} {n : ℕ} {es kept : List Event} {places : List ℕ}
+      → Thins x begun n es kept places → T (allNamed sys (map event es)) → T (allNamed sys (map event kept))
   unfolding allNamed
   thins-named (rest t) a = tt
   thins-named (keep {e} {es} {kept} h) a =
       and-map (named sys (event e)) (allNamed sys (map event es)) (allNamed sys (map event kept))
       (thins-named h)
       a
-  thins-named (skip {e} {es} t h) a = thins-named h (named-rest e es a)
-
-  -- The kept events name machines and locations of the system if all do.
-  pub leads-named : {x : Location} {n : ℕ} {es kept : List Event} {places : List ℕ} → Leads x n es kept places
-      → T (allNamed sys (map event es)) → T (allNamed sys (map event kept))
-  leads-named (begin h) a = thins-named h a
-  leads-named (before {e} {es} t h) a = leads-named h (named-rest e es a)
+  thins-named (skip {e} {es} t h) a =
+      thins-named h (and-r (named sys (event e)) (allNamed sys (map event es)) a)

@@ -4,20 +4,20 @@ use native.Mathlib.Nat.{eq-or-lt-of-le}
 use native.Mathlib.Omega.{arith}
 use mathlib.Core.Path.{_≡_, refl, ap, _∙_}
 use mathlib.Core.Logic.{⊎-elim}
-use mathlib.Core.Bool.{true, not, _&&_}
+use mathlib.Core.Bool.{Bool, true, not, _&&_}
 use mathlib.Core.List.{List, [], _∷_, map, Memᴰ·of-map}
 use mathlib.Core.List.{List·Memᴰ, List·Memᴰ·head, List·Memᴰ·tail}
 use lib.Dec.{T}
 use lib.ListN.{length, getD}
 use Rattle.model.specs.Cxl0.{Location, Topology, Event, event, silent}
 use Rattle.model.specs.Schedule.{Step, silentOf, steps, weaveFrom, weave, inOrder}
-use Rattle.model.specs.OneLocation.{Local, possibleAt, nextAt, startAt, runsAt}
+use Rattle.model.specs.OneLocation.{Local, possibleAt, nextAt, startAt, still, runsAt}
 use Rattle.model.proofs.Tests.{and-l, and-r}
 use Rattle.model.proofs.Weaving.{inOrder-cons, weave-due, weave-event}
-use Rattle.events.specs.Thinning.{ownEvent, noneOwn, Thins, rest, keep, skip, Leads, begin, before}
+use Rattle.events.specs.Thinning.{ownEvent, noneOwn, Thins, rest, keep, skip, Thinned}
 use Rattle.events.specs.Thinning.{retimed}
-use Rattle.events.proofs.Thinning.{elsewhere-next, elsewhere-possible, foreign-next, foreign-possible}
-use Rattle.events.proofs.KeptEvents.{leads-places, leads-rise}
+use Rattle.events.proofs.Thinning.{foreign-possible, From, left-out}
+use Rattle.events.proofs.KeptEvents.{thins-places, thins-rise}
 
 -- ---- retiming by any clock
 
@@ -89,13 +89,13 @@ shows-first clock k m shows =
     ap clock same ∙ shows .each 0 (omega arith)
 
 -- The clock is steady.
-shows-steady : (clock : ℕ → ℕ) (k m : ℕ) {x : Location} {n : ℕ} {es kept : List Event} {places : List ℕ}
-    → Leads x n es kept places → Shows clock k m kept places → Steady clock k m n (n + length es)
-shows-steady clock k m {kept} {places} leads shows i j g g' f =
+shows-steady : (clock : ℕ → ℕ) (k m : ℕ) {x : Location} {begun : Bool} {n : ℕ} {es kept : List Event} {places : List ℕ}
+    → Thins x begun n es kept places → Shows clock k m kept places → Steady clock k m n (n + length es)
+shows-steady clock k m {kept} {places} thins shows i j g g' f =
     let here = at i g (omega arith) in
     let there = at j (omega arith) f in
-    let low = leads-places leads (i - k) (omega (arith, shows .all)) in
-    let high = leads-places leads (j - k) (omega (arith, shows .all)) in (
+    let low = thins-places thins (i - k) (omega (arith, shows .all)) in
+    let high = thins-places thins (j - k) (omega (arith, shows .all)) in (
       omega (arith, here, low),
       ⊎-elim (λ e. rw e (omega arith)) (rises here there) (eq-or-lt-of-le g'),
       omega (arith, there, high),
@@ -108,7 +108,7 @@ shows-steady clock k m {kept} {places} leads shows i j g g' f =
 
     rises : clock i ≡ getD places (i - k) 0 → clock j ≡ getD places (j - k) 0 → i < j → clock i ≤ clock j
     rises here there l =
-        omega (arith, here, there, leads-rise leads (i - k) (j - k) (omega arith) (omega (arith, shows .all)))
+        omega (arith, here, there, thins-rise thins (i - k) (j - k) (omega arith) (omega (arith, shows .all)))
 
 -- ---- runs
 
@@ -158,43 +158,33 @@ module _ (sys : Topology) (x : Location) where
             rw (woven, weave-due k kept p ps (omega arith), timed-silent clock p)
             (ap (_&&_ (possibleAt sys x a s)) (more (nextAt sys x a s)))
 
-    -- That is so from everywhere, if what is left out does not concern x or comes after all that name x.
-    thins-alike : {n : ℕ} {es kept : List Event} {places : List ℕ} → Thins x n es kept places
+    -- That is so of the kept events.
+    thins-alike : {begun : Bool} {n : ℕ} {es kept : List Event} {places : List ℕ} → Thins x begun n es kept places
         → (k : ℕ) → Shows clock k m kept places
-        → (ps : List Step) → T (inOrder k m ps) → Below m ps → (s : Local) → Alike n es k kept ps s
+        → (ps : List Step) → T (inOrder k m ps) → Below m ps → (s : Local) → From sys x begun s
+        → Alike n es k kept ps s
     unfolding runsAt
-    thins-alike {n} (rest {es} none) k shows [] t b s = none-runs n es none s ∙ unfold weaveFrom steps in refl
-    thins-alike (rest none) k shows (p ∷ ps) t b s =
+    thins-alike {n} (rest {es} none) k shows [] t b s from =
+        none-runs n es none s ∙ unfold weaveFrom steps in refl
+    thins-alike (rest none) k shows (p ∷ ps) t b s from =
         let o = inOrder-cons k m p ps .0 t in
         absurd (omega (arith, o .0, below-first b, shows .all))
-    thins-alike {n} (keep {e} {es} {kept} {places} h) k shows ps t b s =
+    thins-alike {n} (keep {e} {es} {kept} {places} h) k shows ps t b s from =
         let later = shows-rest clock k m shows in
         alike-due n (e ∷ es) k (e ∷ kept) (shows-first clock k m shows)
         (λ qs u c s.
         let order = timed-inOrder clock (suc k) m m (suc n) (suc n + length es)
-        (shows-steady clock (suc k) m (begin h) later) qs c u in
-        let more = thins-alike h (suc k) later qs u c (nextAt sys x (event e) s) in
+        (shows-steady clock (suc k) m h later) qs c u in
+        let more = thins-alike h (suc k) later qs u c (nextAt sys x (event e) s) tt in
         rw (weave-event n (suc n + length es) e es (map (timed clock) qs) order, weave-event k m e kept qs u)
         (ap (_&&_ (possibleAt sys x (event e) s)) more))
         ps t b s
-    thins-alike {n} (skip {e} {es} none h) k shows ps t b s =
-        let order = timed-inOrder clock k m m (suc n) (suc n + length es)
-        (shows-steady clock k m (begin h) shows) ps b t in
-        idle n (suc n + length es) e es (map (timed clock) ps) s order
-        (elsewhere-possible sys x e s none) (elsewhere-next sys x e s none)
-        ∙ thins-alike h k shows ps t b s
-
-    -- From the start it is so too if what comes before the first event that names x is left out.
-    leads-alike : {n : ℕ} {es kept : List Event} {places : List ℕ} → Leads x n es kept places
-        → (k : ℕ) → Shows clock k m kept places
-        → (ps : List Step) → T (inOrder k m ps) → Below m ps → Alike n es k kept ps (startAt sys x)
-    leads-alike (begin h) k shows ps t b = thins-alike h k shows ps t b (startAt sys x)
-    leads-alike {n} (before {e} {es} none h) k shows ps t b =
+    thins-alike {n} (skip {begun} {e} {es} none h) k shows ps t b s from =
         let order = timed-inOrder clock k m m (suc n) (suc n + length es)
         (shows-steady clock k m h shows) ps b t in
-        idle n (suc n + length es) e es (map (timed clock) ps) (startAt sys x) order
-        (foreign-possible sys x e (startAt sys x) none) (foreign-next sys x e none)
-        ∙ leads-alike h k shows ps t b
+        let (here, can, same) = left-out sys x begun e none from still in
+        idle n (suc n + length es) e es (map (timed clock) ps) s order can same
+        ∙ thins-alike h k shows ps t b s from
 
 -- ---- schedules
 
@@ -202,7 +192,7 @@ module _ (sys : Topology) (x : Location) where
 abbrev pub placeOf : List ℕ → ℕ → ℕ
 placeOf places i = getD places i 0
 
-module _ {x : Location} {es kept : List Event} {places : List ℕ} (leads : Leads x 0 es kept places) where
+module _ {x : Location} {es kept : List Event} {places : List ℕ} (thinned : Thinned x es kept places) where
   shows-places : Shows (placeOf places) 0 (length kept) kept places
   shows-places =
       record {
@@ -211,24 +201,24 @@ module _ {x : Location} {es kept : List Event} {places : List ℕ} (leads : Lead
       }
 
   -- The retimed steps are in order.
-  pub leads-inOrder : {ps : List Step} → ((p : Step) → List·Memᴰ p ps → p .before < length kept)
+  pub thinned-inOrder : {ps : List Step} → ((p : Step) → List·Memᴰ p ps → p .before < length kept)
       → T (inOrder 0 (length kept) ps) → T (inOrder 0 (length es) (retimed places ps))
   unfolding retimed
-  leads-inOrder {ps} b t =
+  thinned-inOrder {ps} b t =
       let all : 0 + length es ≡ length es = omega arith in
       rw all at
       (timed-inOrder (placeOf places) 0 (length kept) (length kept) 0 (0 + length es)
-      (shows-steady (placeOf places) 0 (length kept) leads shows-places) ps b t)
+      (shows-steady (placeOf places) 0 (length kept) thinned shows-places) ps b t)
 
   -- Woven with all events they run at x as the steps do, woven with the kept ones.
-  pub leads-weave : (sys : Topology) {ps : List Step}
+  pub thinned-weave : (sys : Topology) {ps : List Step}
       → ((p : Step) → List·Memᴰ p ps → p .before < length kept)
       → T (inOrder 0 (length kept) ps)
       → runsAt sys x (weave es (retimed places ps)) (startAt sys x)
       ≡ runsAt sys x (weave kept ps) (startAt sys x)
   unfolding weave retimed
-  leads-weave sys {ps} b t =
-      leads-alike sys x (placeOf places) (length kept) leads 0 shows-places ps t b
+  thinned-weave sys {ps} b t =
+      thins-alike sys x (placeOf places) (length kept) thinned 0 shows-places ps t b (startAt sys x) refl
 
 -- Each retimed step is one of the steps, with its place.
 pub retimed-member : (places : List ℕ) (ps : List Step) (p : Step) → List·Memᴰ p (retimed places ps)

@@ -16,18 +16,18 @@ use Rattle.model.proofs.Tests.{true→T, not→false, and-l, and-r}
 use Rattle.model.proofs.Sharers.{remove-le}
 use Rattle.model.proofs.SilentSteps.{has→some}
 use Rattle.model.proofs.Gaps.{has-run-nil, after-gap, has-run-cons}
-use Rattle.events.specs.Thinning.{ownEvent, noneOwn, Thins, rest, keep, skip, Leads, begin, before}
+use Rattle.events.specs.Thinning.{ownEvent, noneOwn, matters, Thins, rest, keep, skip, Thinned}
 
 -- ---- events elsewhere
 
 module _ (sys : Topology) (x : Location) where
   -- An event that does not concern x leaves x as it is.
-  pub elsewhere-next : (e : Event) (s : Local) → T (not (eventAt x e)) → nextAt sys x (event e) s ≡ s
+  elsewhere-next : (e : Event) (s : Local) → T (not (eventAt x e)) → nextAt sys x (event e) s ≡ s
   unfolding nextAt concerns
   elsewhere-next e s t = rw (not→false {b = eventAt x e} t)
 
   -- It is possible at x.
-  pub elsewhere-possible : (e : Event) (s : Local) → T (not (eventAt x e))
+  elsewhere-possible : (e : Event) (s : Local) → T (not (eventAt x e))
       → possibleAt sys x (event e) s ≡ true
   unfolding possibleAt concerns
   elsewhere-possible e s t = rw (not→false {b = eventAt x e} t)
@@ -57,7 +57,7 @@ module _ (sys : Topology) (x : Location) where
       λ j. record { code = none j; copy = 0; memory = same j }
 
   -- At the start an event that does not name x leaves x as it is.
-  pub foreign-next : (e : Event) → T (not (ownEvent x e))
+  foreign-next : (e : Event) → T (not (ownEvent x e))
       → nextAt sys x (event e) (startAt sys x) ≡ startAt sys x
   unfolding ownEvent eventAt
   foreign-next (LStore i y v) t = elsewhere-next (LStore i y v) (startAt sys x) t
@@ -103,41 +103,48 @@ module _ (sys : Topology) (x : Location) where
   gap-run : {s t : Local} (es : List Event) → Silently sys x s t → HasRunAt sys x es t → HasRunAt sys x es s
   gap-run es g r = let m = after-gap sys x g (r .0) (r .2) (r .3) in (m .0, m .1 ∙ r .1, m .2, m .3)
 
--- From everywhere all events have a run at x exactly if those kept have one.
-pub thins-run : (sys : Topology) {x : Location} {n : ℕ} {es kept : List Event} {places : List ℕ}
-    → Thins x n es kept places → (s : Local) → HasRunAt sys x es s ↔ HasRunAt sys x kept s
-thins-run sys {x} (rest {es} t) s = (λ r. has-run-nil sys x s, λ r. none-run sys x es t s)
-thins-run sys {x} (keep {e} {es} {kept} h) s = (
+  -- ---- events that need not be kept
+
+  -- Where events may be left out: everywhere once one was kept, and at the start before.
+  abbrev pub From : (begun : Bool) → Local → Type 0
+  From true s = Unit {0}
+  From false s = s ≡ startAt sys x
+
+  -- After silent steps, if any, an event that need not be kept is possible and leaves x as it is.
+  pub left-out : (begun : Bool) (e : Event) → T (not (matters begun x e)) → {s t : Local} → From begun s
+      → Silently sys x s t
+      → From begun t × (possibleAt sys x (event e) t ≡ true) × (nextAt sys x (event e) t ≡ t)
+  left-out true e none {t = t} from gap = (tt, elsewhere-possible e t none, elsewhere-next e t none)
+  left-out false e none from gap =
+      let here = quiet gap (ap (λ (l : Local). l .code) from ∙ unfold startAt in refl) ∙ from in
+      (here, foreign-possible e _ none, rw here (foreign-next e none))
+
+-- All events have a run at x exactly if those kept have one.
+thins-run : (sys : Topology) {x : Location} {begun : Bool} {n : ℕ} {es kept : List Event} {places : List ℕ}
+    → Thins x begun n es kept places → (s : Local) → From sys x begun s
+    → HasRunAt sys x es s ↔ HasRunAt sys x kept s
+thins-run sys {x} (rest {es} t) s from = (λ r. has-run-nil sys x s, λ r. none-run sys x es t s)
+thins-run sys {x} (keep {e} {es} {kept} h) s from = (
   λ r.
       let f = has-run-cons sys x e es s .0 r in
-      let more = thins-run sys h (nextAt sys x (event e) (f .0)) .0 (f .3) in
+      let more = thins-run sys h (nextAt sys x (event e) (f .0)) tt .0 (f .3) in
       has-run-cons sys x e kept s .1 (f .0, f .1, f .2, more),
   λ r.
       let f = has-run-cons sys x e kept s .0 r in
-      let more = thins-run sys h (nextAt sys x (event e) (f .0)) .1 (f .3) in
+      let more = thins-run sys h (nextAt sys x (event e) (f .0)) tt .1 (f .3) in
       has-run-cons sys x e es s .1 (f .0, f .1, f .2, more),
 )
-thins-run sys {x} (skip {e} {es} {kept} t h) s = (
+thins-run sys {x} (skip {begun} {e} {es} {kept} t h) s from = (
   λ r.
       let f = has-run-cons sys x e es s .0 r in
-      let then = subst (HasRunAt sys x es) (elsewhere-next sys x e (f .0) t) (f .3) in
-      gap-run sys x kept (f .1) (thins-run sys h (f .0) .0 then),
+      let (there, can, same) = left-out sys x begun e t from (f .1) in
+      gap-run sys x kept (f .1) (thins-run sys h (f .0) there .0 (subst (HasRunAt sys x es) same (f .3))),
   λ r.
-      more-run sys x e es s (elsewhere-possible sys x e s t) (elsewhere-next sys x e s t)
-      (thins-run sys h s .1 r),
+      let (here, can, same) = left-out sys x begun e t from still in
+      more-run sys x e es s can same (thins-run sys h s from .1 r),
 )
 
--- From the start they have one too, if what comes before the first event that names x is left out.
-pub leads-run : (sys : Topology) {x : Location} {n : ℕ} {es kept : List Event} {places : List ℕ}
-    → Leads x n es kept places → HasRunAt sys x es (startAt sys x) ↔ HasRunAt sys x kept (startAt sys x)
-leads-run sys {x} (begin h) = thins-run sys h (startAt sys x)
-leads-run sys {x} (before {e} {es} {kept} t h) = (
-  λ r.
-      let f = has-run-cons sys x e es (startAt sys x) .0 r in
-      let same = quiet sys x (f .1) (unfold startAt in refl) in
-      let then = ap (nextAt sys x (event e)) same ∙ foreign-next sys x e t in
-      leads-run sys h .0 (subst (HasRunAt sys x es) then (f .3)),
-  λ r.
-      let can = foreign-possible sys x e (startAt sys x) t in
-      more-run sys x e es (startAt sys x) can (foreign-next sys x e t) (leads-run sys h .1 r),
-)
+-- From the start all events have a run exactly if those kept of them have one.
+pub thinned-run : (sys : Topology) {x : Location} {es kept : List Event} {places : List ℕ}
+    → Thinned x es kept places → HasRunAt sys x es (startAt sys x) ↔ HasRunAt sys x kept (startAt sys x)
+thinned-run sys {x} thinned = thins-run sys thinned (startAt sys x) refl

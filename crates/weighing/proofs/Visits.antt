@@ -29,12 +29,12 @@ use Rattle.walking.specs.Walks.{Placed, Schedules}
 use Rattle.search.specs.declared.explaining.Found.{Found}
 use Rattle.search.specs.Paths.{Explainable, Explained}
 use Rattle.search.proofs.Prefixes.{has-run-at-prefix}
-use Rattle.events.specs.Thinning.{Leads, retimed}
+use Rattle.events.specs.Thinning.{Thinned, retimed}
 use Rattle.events.specs.Linking.{placeIn, placesIn, logged, Linked, Picked}
 use Rattle.events.specs.Retiming.{Retimable, Retimed}
 use Rattle.events.proofs.Retimings.{places-at}
-use Rattle.events.proofs.Thinning.{leads-run}
-use Rattle.events.proofs.KeptEvents.{leads-take, leads-named}
+use Rattle.events.proofs.Thinning.{thinned-run}
+use Rattle.events.proofs.KeptEvents.{thinned-take, thins-named}
 use Rattle.weighing.specs.Gathering.{Gathered}
 use Rattle.weighing.specs.Visiting.{Visitable, Visited}
 use Rattle.weighing.specs.declared.visiting.Progress.{Progress}
@@ -42,7 +42,7 @@ use Rattle.weighing.proofs.Described.{described}
 use Rattle.weighing.proofs.KnownEvents.{knowns}
 use Rattle.weighing.proofs.Gathering.{gathered-few, gathered-more}
 use Rattle.weighing.proofs.Extending.{Extended, kept-only, found-retimable, found-extended}
-use Rattle.weighing.proofs.RetimedSchedules.{leads-schedules}
+use Rattle.weighing.proofs.RetimedSchedules.{thinned-schedules}
 
 -- No steps are a schedule for no events.
 schedules-none : (s : Site) → Schedules s [] []
@@ -106,14 +106,14 @@ module _ {t : topology.Topology} {n x : ℕ} {p : Progress} {w : List ℕ} (can 
       (eq-or-lt-of-le (le-of-suc-le-suc l))
 
   module _ {k : ℕ} {w₁ : List ℕ} (picked : Picked x m w k w₁) where
-    leads : Leads x 0 (take m es) (eventsIn w₁ k) (placesIn w₁ k)
-    leads = picked .leads es (can .weighable .linked) (can .tried .most)
+    thinned : Thinned x (take m es) (eventsIn w₁ k) (placesIn w₁ k)
+    thinned = picked .thinned es (can .weighable .linked) (can .tried .most)
 
     few-picked : k ≤ 128
     few-picked = omega (arith, picked .few, can .tried .most, size, few)
 
     kept-named : T (allNamed sys (map event (eventsIn w₁ k)))
-    kept-named = leads-named sys leads (named-take sys es m (can .weighable .named))
+    kept-named = thins-named sys thinned (named-take sys es m (can .weighable .named))
 
     frame₁ : OnlyIn 0 STEPS w w₁
     frame₁ = only-wider (picked .frame) (omega arith) (omega arith)
@@ -154,8 +154,8 @@ module _ {t : topology.Topology} {n x : ℕ} {p : Progress} {w : List ℕ} (can 
       whole : m ≡ length es → {qs : List Step} → Schedules s (eventsIn w₁ k) qs
           → Schedules s es (retimed (placesIn w₁ k) qs)
       whole e sch =
-          let all = rw (all-taken e, ← here) at leads in
-          leads-schedules all (sch .early) sch
+          let all = rw (all-taken e, ← here) at thinned in
+          thinned-schedules all (sch .early) sch
 
       gathered-here : m ≡ length es → {ps qs : List Step} → Gathered sys es x ps
           → Schedules s (eventsIn w₁ k) qs → Gathered sys es (suc x) (ps ++ retimed (placesIn w₁ k) qs)
@@ -184,7 +184,7 @@ module _ {t : topology.Topology} {n x : ℕ} {p : Progress} {w : List ℕ} (can 
           tried = record {
             most = can .tried .most;
             few = can .tried .few;
-            runs = runs-more m (le-refl m) (leads-run sys leads .1 run);
+            runs = runs-more m (le-refl m) (thinned-run sys thinned .1 run);
             ends = can .tried .ends;
             steps = λ all.
                 let old = can .tried .steps all in
@@ -225,12 +225,12 @@ module _ {t : topology.Topology} {n x : ℕ} {p : Progress} {w : List ℕ} (can 
           → Visited t n (suc x) w (record { events = e; steps = p .steps }) w₂
       visit-ends l e at =
           let place : getD (placesIn w₁ k) good 0 ≡ e = sym (at ∙ visit-place l) in
-          let cut = rw place at (leads-take leads good (rw (events-length w₁ k) l)) in
+          let cut = rw place at (thinned-take thinned good (rw (events-length w₁ k) l)) in
           let below : e < m = omega (arith, cut .0, length-take m es, can .tried .most) in
           let runs : RunsHere (take e es) =
-          rw (← take-take e m es (omega arith)) (leads-run sys (cut .1) .1 run-good) in
+          rw (← take-take e m es (omega arith)) (thinned-run sys (cut .1) .1 run-good) in
           let none : ¬ RunsHere (take (suc e) es) = λ r.
-          let kept = leads-run sys (cut .2) .0 (rw (take-take (suc e) m es below) r) in
+          let kept = thinned-run sys (cut .2) .0 (rw (take-take (suc e) m es below) r) in
           done .ends l sys d (rw here (rw (events-take w₁ (suc good) k l) at kept)) in
           record {
             frame = kept₂;
@@ -248,7 +248,7 @@ module _ {t : topology.Topology} {n x : ℕ} {p : Progress} {w : List ℕ} (can 
         run-all =
             let long : length (eventsIn w₁ k) ≤ good = rw (events-length w₁ k) (omega arith) in
             let all = take-all good (eventsIn w₁ k) long in
-            leads-run sys leads .1 (rw all at run-good)
+            thinned-run sys thinned .1 (rw all at run-good)
 
         -- All of them have a run, but not all events of the log had one before.
         pub visit-same : m < n → Visited t n (suc x) w p w₂

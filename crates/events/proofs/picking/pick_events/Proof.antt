@@ -39,7 +39,7 @@ returns c =
     record {
       frame = only-none EVENTS ROWS (start .args .w .now);
       few = omega arith;
-      leads = λ es linked within. pick-none linked (start .pre .1) within
+      thinned = λ es linked within. pick-none linked (start .pre .1) within
           (rw (head .head-of .ensures) at (c .if1 .taken));
       operations = λ es linked within j h. absurd (omega arith);
     }
@@ -126,7 +126,7 @@ returns-2 c =
     record {
       frame = only-then first (h .loop .inv .0);
       few = omega (arith, up .few, up .reached);
-      leads = λ es linked within.
+      thinned = λ es linked within.
           pick-done (h .loop .inv .1 _ es at (linked-same first linked) within) (c .if2 .left);
       operations = λ es linked within. h .loop .inv .1 _ es at (linked-same first linked) within .operations;
     }
