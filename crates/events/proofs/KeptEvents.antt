@@ -1,5 +1,5 @@
--- The events kept for a location and their places: how many there are, what the first of them are kept of,
--- that the places rise, and that the kept events allow for no more steps and name no more than all events.
+-- The events kept for a location and their places: what the first of them are kept of, that the places
+-- rise, and that the kept events allow for no more steps and name no more than all events.
 use Prim.Native.Nat.{ℕ, zero, suc, _+_, _≤_, _<_}
 use native.Mathlib.Nat.{not-suc-le-zero, le-of-suc-le-suc, zero-add}
 use native.Mathlib.Omega.{arith}

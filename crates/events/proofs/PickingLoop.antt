@@ -13,7 +13,7 @@ use Rattle.model.specs.Cxl0.{Event, Crash}
 use Rattle.model.specs.Operations.{isOperation}
 use Rattle.model.specs.OneLocation.{eventAt}
 use Rattle.model.proofs.Tests.{by-test, T→true, not→false}
-use Rattle.scratch.specs.Layout.{EVENTS}
+use Rattle.scratch.specs.Layout.{EVENTS, MOST}
 use Rattle.scratch.specs.Words.{eventsFrom, eventsIn}
 use Rattle.events.specs.declared.picking.Pick.{Pick}
 use Rattle.events.specs.Thinning.{ownEvent, isCrash, Thins, rest, Thinned}
@@ -25,7 +25,7 @@ use Rattle.events.proofs.Leading.{own-no-crash, unconcerned, none-own, 
 use Rattle.events.proofs.Copies.{copied-frame, copied-events, copied-places, copied-operations}
 use Rattle.events.proofs.Copies.{linked-event, linked-same}
 
-module _ (es : List Event) (m : ℕ) (few : length es ≤ 128) (within : m ≤ length es) where
+module _ (es : List Event) (m : ℕ) (few : length es ≤ MOST) (within : m ≤ length es) where
   short : length (take m es) ≡ m
   short = length-take-le m es within
 
@@ -61,7 +61,7 @@ pick-none {es} {w} {x} {m} linked h within none =
 
 module _ {es : List Event} {w : List ℕ} {x m : ℕ} (linked : Linked es w) (within : m ≤ length es) where
   -- What a copy adds.
-  module _ (q k : ℕ) (inside : q < m) (low : k < 129) (kept : List Event) (places : List ℕ) where
+  module _ (q k : ℕ) (inside : q < m) (low : k < MOST) (kept : List Event) (places : List ℕ) where
     one-more :
         Thinned x (take m es) (eventsIn w k ++ atPlace (take m es) q ∷ kept) (placesIn w k ++ q ∷ places)
         → Thinned x (take m es) (eventsIn (copied q k w) (k + 1) ++ kept)
@@ -119,13 +119,13 @@ module _ {es : List Event} {w : List ℕ} {x m : ℕ} {p : Pick} (up : UpTo es x
   inside : up .past ≤ length es
   inside = omega (arith, up .reached, up .within)
 
-  -- There is room for one event more.
-  pub pick-room : p .count < 129
-  pick-room = omega (arith, up .few, inside, up .linked .few)
-
   module _ (more : p .own < m) where
     own-first : First (ownEvent x) es (up .linked .few) (up .past) (p .own)
     own-first = rw (up .own) (first-of (ownEvent x) es (up .linked .few) (up .past) inside)
+
+    -- There is room for one event more.
+    pub pick-room : p .count < MOST
+    pick-room = omega (arith, up .few, own-first .after, up .within, up .linked .few)
 
     crash-first : First isCrash es (up .linked .few) (up .past) (p .crash)
     crash-first = rw (up .crash) (first-of isCrash es (up .linked .few) (up .past) inside)

@@ -19,7 +19,7 @@ pub const WORDS: usize = 4096;
 
 const MOST: usize = 129;
 
-const MOST_STEPS: usize = 256;
+const MOST_STEPS: usize = 2 * MOST;
 
 // The events that matter at the location at hand, the rows with the values of the copies, and the steps of the
 // locations so far. The walk's own steps may run on over the two regions after that, up to the waypoints.

@@ -1,26 +1,20 @@
--- Once every location was visited: a sound verdict, the first impossible event or a schedule of all events.
+-- Once every location was visited: the first impossible event, or a schedule of all events.
 use Prim.Native.Nat.{ℕ, suc, _+_, _≤_, _<_}
 use native.Mathlib.Omega.{arith}
 use native.Mathlib.Nat.{le-of-suc-le-suc}
 use mathlib.Core.Path.{_≡_}
-use mathlib.Core.Bool.{_&&_}
 use mathlib.Core.List.{List}
-use lib.Dec.{T, leb, le→leb}
+use lib.Dec.{T}
 use lib.ListN.{length, take, drop, length-map}
-use lib.Seq.{length-slice}
 use Rattle.model.specs.Cxl0.{Topology, WellFormed, Event, Run, HasRun, FirstImpossible}
 use Rattle.model.specs.Schedule.{Step, weave, inOrder}
 use Rattle.model.specs.Meaning.{topologyOf}
 use Rattle.model.specs.Words.{stepOfWord}
 use Rattle.model.specs.declared.Topology as topology
-use Rattle.model.proofs.Tests.{and-i}
 use Rattle.model.proofs.Limits.{within, listed-below}
 use Rattle.model.proofs.Split.{split}
 use Rattle.model.proofs.Prefixes.{has-run-fewer}
 use Rattle.model.proofs.NamedEvents.{named-take}
-use Rattle.verdict_file.specs.Files.{stepsMost}
-use Rattle.verdict_file.specs.Fitting.{everyStepFits, scheduleFits}
-use Rattle.verdict_file.proofs.Fitting.{run-fits}
 use Rattle.scratch.specs.Layout.{STEPS, SORTED, LOG, WORDS, OnlyIn}
 use Rattle.scratch.specs.Words.{wordsAt, stepsAt}
 use Rattle.scratch.proofs.Frames.{only-then, only-wider}
@@ -31,10 +25,11 @@ use Rattle.sorting.specs.SortedWords.{Listed, Ordered}
 use Rattle.sorting.proofs.SortedWords.{listed-steps, ordered-steps}
 use Rattle.events.specs.Linking.{logged}
 use Rattle.weighing.specs.Gathering.{Gathered}
-use Rattle.weighing.specs.Weighing.{Weighable, Sound, Concluded}
+use Rattle.weighing.specs.Weighing.{Weighable, Finds, Concluded}
 use Rattle.weighing.specs.Visiting.{Visited}
 use Rattle.weighing.specs.declared.Weighed.{Weighed}
 use Rattle.weighing.specs.declared.visiting.Progress.{Progress}
+use Rattle.weighing.proofs.Gathering.{gathered-few}
 
 -- If the first m events have a run and one more have none, that one is the first impossible.
 first-impossible : (sys : Topology) (es : List Event) (m : ℕ) → m < length es
@@ -77,10 +72,10 @@ module _ {t : topology.Topology} {n : ℕ} {w : List ℕ} (can : Weighable t n w
 
   -- Not all events have a run: the next is the first impossible one.
   pub concluded-impossible : m < n → Concluded t n w (Weighed.Impossible (m + 1)) w'
-  unfolding Sound
+  unfolding Finds
   concluded-impossible h =
       let next : m + 1 ≡ suc m = omega arith in
-      record { frame = v .frame; few = omega arith; sound = rw next (ends-first h) }
+      record { frame = v .frame; few = omega arith; finds = rw next (ends-first h) }
 
   -- All events have a run: the list has the schedules of all locations.
   module _ (all : n ≤ m) where
@@ -115,28 +110,17 @@ module _ {t : topology.Topology} {n : ℕ} {w : List ℕ} (can : Weighable t n w
           (λ x l. gathered .runs x (listed-below t x l)) in
           rw same (rw size at each)
 
-      words-counted : length (wordsAt SORTED (p .steps) out) ≡ p .steps
-      words-counted =
-          let few = v .tried .few in
-          let inside : SORTED + p .steps ≤ length out = omega (arith, sorted .frame .sized, room) in
-          omega (arith, length-slice SORTED (SORTED + p .steps) out inside)
+      order : T (inOrder 0 (length es) steps)
+      order = rw (same, size) (ordered-inOrder n (stepsAt STEPS (p .steps) w'))
 
-      fits : T (scheduleFits sys (length es) steps)
-      unfolding scheduleFits
-      fits =
-          let most = v .tried .few in
-          let words = wordsAt SORTED (p .steps) out in
-          let few = leb (length steps) stepsMost in
-          let order = inOrder 0 (length es) steps in
-          and-i (few && order) (everyStepFits sys steps)
-          (and-i few order
-          (le→leb (length steps) stepsMost (omega (arith, words-counted, length-map words stepOfWord)))
-          (rw (same, size) (ordered-inOrder n (stepsAt STEPS (p .steps) w'))))
-          (run-fits sys wellFormed es steps run)
-
-      -- In order, its steps are a schedule of the events.
+      -- In order, its steps make a run of the events.
       pub concluded-allowed : Concluded t n w (Weighed.Allowed (p .steps)) out
-      unfolding Sound
+      unfolding Finds
       concluded-allowed =
+          let long = length-map (wordsAt STEPS (p .steps) w') stepOfWord in
           let low : OnlyIn 0 LOG w' out = only-wider (sorted .frame) (omega arith) (omega arith) in
-          record { frame = only-then (v .frame) low; few = v .tried .few; sound = (fits, run) }
+          record {
+            frame = only-then (v .frame) low;
+            few = omega (arith, gathered-few sys es gathered, long, counted, size);
+            finds = (order, run);
+          }

@@ -12,7 +12,7 @@ use Rattle.model.specs.Schedule.{Step}
 use Rattle.model.specs.Words.{stepOfWord}
 use Rattle.model.proofs.Allowances.{allowance-few}
 use Rattle.rows.specs.declared.Site.{Site}
-use Rattle.scratch.specs.Layout.{EVENTS, ROWS, STEPS, MOST, OnlyIn, LOG}
+use Rattle.scratch.specs.Layout.{EVENTS, ROWS, STEPS, MOST, MOST-STEPS, OnlyIn, LOG}
 use Rattle.scratch.specs.Words.{eventsIn, countOf, wordsAt}
 use Rattle.scratch.proofs.Frames.{only-then, only-wider, getD-below}
 use Rattle.scratch.proofs.Events.{events-length}
@@ -83,7 +83,7 @@ counts-below k (v ∷ ws) h (suc j) l =
 -- ---- the schedule, and the places
 
 module _ {s : Site} {k count : ℕ} {found : Found} {w w₁ : List ℕ} (can : Explainable s k count w)
-    (few : k ≤ 128) (done : Explained s k count w found w₁) (all : found .events ≡ k) where
+    (few : k ≤ MOST) (done : Explained s k count w found w₁) (all : found .events ≡ k) where
   abbrev more : ℕ
   more = found .steps
 
@@ -93,7 +93,7 @@ module _ {s : Site} {k count : ℕ} {found : Found} {w w₁ : List ℕ} (can : E
   abbrev words : List ℕ
   words = new .words
 
-  short : more ≤ 512
+  short : more ≤ 2 * MOST-STEPS
   short =
       let most = allowance-few (s .location .0) (eventsIn w k) in
       let size = length-map words stepOfWord in

@@ -20,7 +20,7 @@ use Rattle.model.proofs.Limits.{within, listed-below}
 use Rattle.model.proofs.NamedEvents.{named-take}
 use Rattle.rows.specs.declared.Site.{Site}
 use Rattle.rows.specs.Sites.{Describes}
-use Rattle.scratch.specs.Layout.{EVENTS, ROWS, STEPS, WORDS, OnlyIn, LOG}
+use Rattle.scratch.specs.Layout.{EVENTS, ROWS, STEPS, WORDS, MOST, OnlyIn, LOG}
 use Rattle.scratch.specs.Words.{eventsFrom, eventsIn, wordsAt, stepsAt}
 use Rattle.scratch.proofs.Frames.{only-then, only-wider, getD-below}
 use Rattle.scratch.proofs.Segments.{words-after}
@@ -70,7 +70,7 @@ module _ {t : topology.Topology} {n x : ℕ} {p : Progress} {w : List ℕ} (can 
   size : length es ≡ n
   size = events-length (drop LOG w) n
 
-  few : n ≤ 128
+  few : n ≤ MOST
   few = omega (arith, size, can .weighable .linked .few)
 
   room : WORDS ≤ length w
@@ -109,7 +109,7 @@ module _ {t : topology.Topology} {n x : ℕ} {p : Progress} {w : List ℕ} (can 
     thinned : Thinned x (take m es) (eventsIn w₁ k) (placesIn w₁ k)
     thinned = picked .thinned es (can .weighable .linked) (can .tried .most)
 
-    few-picked : k ≤ 128
+    few-picked : k ≤ MOST
     few-picked = omega (arith, picked .few, can .tried .most, size, few)
 
     kept-named : T (allNamed sys (map event (eventsIn w₁ k)))

@@ -1,5 +1,5 @@
 -- `decide` gives an accepted log its verdict.
-use Prim.Native.Nat.{ℕ}
+use Prim.Native.Nat.{ℕ, _≤_}
 use native.Mathlib.Omega.{arith}
 use mathlib.Core.Path.{sym, ap, _∙_, subst}
 use mathlib.Core.List.{List}
@@ -10,9 +10,10 @@ use Rattle.log.proofs.Each.{bytes-by-index}
 use Rattle.cursors.specs.Opening.{Opens}
 use Rattle.cursors.proofs.Opens.{opens-accepted}
 use Rattle.scratch.specs.Clearing.{zeros}
-use Rattle.weighing.specs.Weighing.{Weighable, verdictOf}
-use Rattle.judge.proofs.Loading.{loadable, loads-weighable, loads-sound}
-use Rattle.judge.proofs.Soundness.{concluded-issuable, sound-issued}
+use Rattle.weighing.specs.Weighing.{Weighable}
+use Rattle.judge.specs.Issuing.{verdictOf}
+use Rattle.judge.proofs.Loading.{few-events, loadable, loads-weighable, loads-sound}
+use Rattle.judge.proofs.Soundness.{concluded-sound, concluded-issuable, sound-issued}
 use Rattle.judge.proofs.Deciding.{fit-out, fit-scratch, decided}
 use Rattle.judge.proofs.decide.Statement.{statement}
 use Rattle.judge.proofs.decide.Tie as tie
@@ -32,7 +33,7 @@ opens c =
     let (r, read, heads) = start c .pre .1 in
     subst (Opens (log c) r) (sym (c .«open» .ensures)) (opens-accepted (log c) (bytes c) r read heads)
 
--- After the log is loaded: what was opened, and that the events can be weighed.
+-- After the log is loaded: what was opened, that the events can be weighed, and that they are a log's.
 abbrev opened : tie.After-load → tie.After-open
 opened c = c .before .before .before
 
@@ -43,6 +44,12 @@ weighable c =
     let (r, read, heads) = start k .pre .1 in
     loads-weighable (log k) (bytes k) r read (start k .args .head) heads (k .«open» .result) (opens k)
     (c .load .ensures)
+
+few : (c : tie.After-load) → start (opened c) .args .head .events ≤ 128
+few c =
+    let k = opened c in
+    let (r, read, heads) = start k .pre .1 in
+    few-events (log k) (bytes k) r read (start k .args .head) heads (k .«open» .result) (opens k)
 
 -- After the events are weighed: what was loaded.
 abbrev loaded : tie.After-weigh → tie.After-load
@@ -69,7 +76,7 @@ weigh-requires c κs = weighable (c .before .before .before)
 issue-requires : tie.Need-issue-requires
 issue-requires c κs =
     let g = c .before .before .before .before in
-    concluded-issuable (weighable (loaded g)) (g .weigh .result) (g .weigh .ensures)
+    concluded-issuable (weighable (loaded g)) (few (loaded g)) (g .weigh .result) (g .weigh .ensures)
 
 clear-requires : tie.Need-clear-requires
 clear-requires c κs = search needs
@@ -92,9 +99,9 @@ returns c =
     let (r, read, heads) = log-read in
     let loads = d .load .ensures in
     let found = verdictOf (g .weigh .result) (g .weigh .last .0) in
-    let sound = g .weigh .ensures .sound in
-    let issued = sound-issued (weighable d) found sound (fit-out (now (a .out)) (a .offset) (now (a .scratch)) fit)
-    (i .issue .ensures) in
+    let sound = concluded-sound (weighable d) (few d) (g .weigh .result) (g .weigh .ensures) in
+    let fits = fit-out (now (a .out)) (a .offset) (now (a .scratch)) fit in
+    let issued = sound-issued (weighable d) (few d) found sound fits (i .issue .ensures) in
     decided (log k) r read found
     (loads-sound (log k) (bytes k) r read (a .head) heads (k .«open» .result) (opens k) loads found sound)
     (now (a .out)) (a .offset) (now (a .scratch)) (i .issue .result) issued
