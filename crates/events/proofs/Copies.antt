@@ -10,7 +10,7 @@ use lib.Dec.{T, eqb, eqb→eq}
 use Rattle.model.specs.Cxl0.{Event}
 use Rattle.model.specs.Operations.{isOperation}
 use Rattle.model.proofs.Tests.{by-test, ne-test}
-use Rattle.scratch.specs.Layout.{EVENTS, ROWS, WORDS, OnlyIn, LOG}
+use Rattle.scratch.specs.Layout.{EVENTS, ROWS, WORDS, MOST, OnlyIn, LOG}
 use Rattle.scratch.specs.Words.{eventIn, eventsFrom, eventsIn}
 use Rattle.scratch.proofs.Frames.{getD-below, getD-above, only-wider}
 use Rattle.scratch.proofs.Access.{two-read, two-only}
@@ -32,7 +32,7 @@ last-place w j (suc t) =
 places-suc : (w : List ℕ) (t : ℕ) → placesIn w (suc t) ≡ placesIn w t ++ placeIn EVENTS w t ∷ []
 places-suc w t = rw (zero-add t) at (last-place w 0 t)
 
-module _ (w : List ℕ) (j k : ℕ) (room : WORDS ≤ length w) (low : k < 129) where
+module _ (w : List ℕ) (j k : ℕ) (room : WORDS ≤ length w) (low : k < MOST) where
   first-read : getD (copied j k w) (EVENTS + 2 * k) 0 ≡ wordOf w j
   first-read = two-read w (EVENTS + 2 * k) (wordOf w j) (valueOf w j) (omega arith) .0
 

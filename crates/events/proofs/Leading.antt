@@ -3,7 +3,7 @@ use Prim.Native.Nat.{ℕ, zero, suc, _+_, _-_, _≤_, _<_}
 use native.Mathlib.Nat.{add-zero}
 use native.Mathlib.Omega.{arith}
 use mathlib.Core.Path.{_≡_}
-use mathlib.Core.Bool.{not}
+use mathlib.Core.Bool.{Bool, true, not}
 use mathlib.Core.List.{List, _∷_}
 use lib.Dec.{T}
 use lib.ListN.{length, drop, drop-of-length-le}
@@ -11,8 +11,8 @@ use lib.Seq.{drop-cons}
 use Rattle.model.specs.Cxl0.{Location, Event, Crash}
 use Rattle.model.specs.OneLocation.{eventAt}
 use Rattle.model.proofs.Tests.{and-i}
-use Rattle.model.specs.OneLocation.{ownEvent}
-use Rattle.events.specs.Thinning.{noneOwn, Thins, keep, skip, Leads, begin, before}
+use Rattle.model.specs.OneLocation.{ownEvent, isCrash}
+use Rattle.events.specs.Thinning.{noneOwn, matters, Thins, keep, skip}
 use Rattle.events.proofs.Places.{atPlace}
 
 module _ (x : Location) (es : List Event) where
@@ -31,42 +31,25 @@ module _ (x : Location) (es : List Event) where
       → ((i : ℕ) → p ≤ i → i < length es → T (not (ownEvent x (atPlace es i)))) → T (noneOwn x (drop p es))
   none-own p h f = none-from (length es - p) p (omega arith) f
 
-  module _ {kept : List Event} {places : List ℕ} where
+  module _ {begun : Bool} {kept : List Event} {places : List ℕ} where
     -- The event at p is kept.
-    pub keep-at : (p : ℕ) → p < length es → Thins x (suc p) (drop (suc p) es) kept places
-        → Thins x p (drop p es) (atPlace es p ∷ kept) (p ∷ places)
+    pub keep-at : (p : ℕ) → p < length es → Thins x true (suc p) (drop (suc p) es) kept places
+        → Thins x begun p (drop p es) (atPlace es p ∷ kept) (p ∷ places)
     keep-at p h t = rw (drop-cons es p (Crash 0) h) (keep t)
 
     skips : (d p : ℕ) → p + d ≤ length es
-        → ((i : ℕ) → p ≤ i → i < p + d → T (not (eventAt x (atPlace es i))))
-        → Thins x (p + d) (drop (p + d) es) kept places → Thins x p (drop p es) kept places
+        → ((i : ℕ) → p ≤ i → i < p + d → T (not (matters begun x (atPlace es i))))
+        → Thins x begun (p + d) (drop (p + d) es) kept places → Thins x begun p (drop p es) kept places
     skips zero p h f t = rw add-zero at t
     skips (suc d) p h f t =
         let sum : p + suc d ≡ suc p + d = omega arith in
         let later = skips d (suc p) (omega arith) (λ i l k. f i (omega arith) (omega arith)) (rw sum at t) in
         rw (drop-cons es p (Crash 0) (omega arith)) (skip (f p (omega arith) (omega arith)) later)
 
-    -- The events from p to q, which do not concern x, are left out.
+    -- The events from p to q, which need not be kept, are left out.
     pub skip-to : (p q : ℕ) → p ≤ q → q ≤ length es
-        → ((i : ℕ) → p ≤ i → i < q → T (not (eventAt x (atPlace es i))))
-        → Thins x q (drop q es) kept places → Thins x p (drop p es) kept places
+        → ((i : ℕ) → p ≤ i → i < q → T (not (matters begun x (atPlace es i))))
+        → Thins x begun q (drop q es) kept places → Thins x begun p (drop p es) kept places
     skip-to p q l h f t =
         let sum : p + (q - p) ≡ q = omega arith in
         skips (q - p) p (omega arith) (λ i a b. f i a (omega arith)) (rw sum t)
-
-    leads-from : (d p : ℕ) → p + d ≤ length es
-        → ((i : ℕ) → p ≤ i → i < p + d → T (not (ownEvent x (atPlace es i))))
-        → Leads x (p + d) (drop (p + d) es) kept places → Leads x p (drop p es) kept places
-    leads-from zero p h f t = rw add-zero at t
-    leads-from (suc d) p h f t =
-        let sum : p + suc d ≡ suc p + d = omega arith in
-        let later = leads-from d (suc p) (omega arith) (λ i l k. f i (omega arith) (omega arith))
-        (rw sum at t) in
-        rw (drop-cons es p (Crash 0) (omega arith)) (before (f p (omega arith) (omega arith)) later)
-
-    -- The events before q, which do not name x, are left out.
-    pub lead-to : (q : ℕ) → q ≤ length es → ((i : ℕ) → i < q → T (not (ownEvent x (atPlace es i))))
-        → Thins x q (drop q es) kept places → Leads x 0 es kept places
-    lead-to q h f t =
-        let sum : 0 + q ≡ q = omega arith in
-        leads-from q 0 (omega arith) (λ i l k. f i (omega arith)) (rw sum (begin t))

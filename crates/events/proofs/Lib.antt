@@ -1,6 +1,10 @@
 pub mod Retimings
 pub mod Places
+pub mod NamedLocations
 pub mod Leading
+pub mod Thinning
+pub mod KeptEvents
+pub mod RetimedRuns
 pub mod LogWords
 pub mod LinkTurns
 pub mod Decodings

@@ -13,21 +13,21 @@ use Rattle.model.specs.Cxl0.{Event, Crash}
 use Rattle.model.specs.Operations.{isOperation}
 use Rattle.model.specs.OneLocation.{eventAt}
 use Rattle.model.proofs.Tests.{by-test, T→true, not→false}
-use Rattle.scratch.specs.Layout.{EVENTS}
+use Rattle.scratch.specs.Layout.{EVENTS, MOST}
 use Rattle.scratch.specs.Words.{eventsFrom, eventsIn}
 use Rattle.events.specs.declared.picking.Pick.{Pick}
 use Rattle.model.specs.OneLocation.{ownEvent, isCrash}
-use Rattle.events.specs.Thinning.{Thins, rest, Leads, begin}
+use Rattle.events.specs.Thinning.{Thins, rest, Thinned}
 use Rattle.events.specs.Linking.{headOf, operationIn, nextOwnIn, nextCrashIn, placesFrom, placesIn}
 use Rattle.events.specs.Linking.{firstFrom, Linked}
 use Rattle.events.specs.Picking.{copied, nearer, pickFrom, pickAfter}
 use Rattle.events.proofs.Places.{atPlace, First, first-of, first-next, first-later}
 use Rattle.model.proofs.Locations.{own-no-crash, unconcerned}
-use Rattle.events.proofs.Leading.{none-own, keep-at, skip-to, lead-to}
+use Rattle.events.proofs.Leading.{none-own, keep-at, skip-to}
 use Rattle.events.proofs.Copies.{copied-frame, copied-events, copied-places, copied-operations}
 use Rattle.events.proofs.Copies.{linked-event, linked-same}
 
-module _ (es : List Event) (m : ℕ) (few : length es ≤ 128) (within : m ≤ length es) where
+module _ (es : List Event) (m : ℕ) (few : length es ≤ MOST) (within : m ≤ length es) where
   short : length (take m es) ≡ m
   short = length-take-le m es within
 
@@ -48,27 +48,27 @@ pub record UpTo (es : List Event) (x m : ℕ) (p : Pick) (w : List ℕ) : Type 0
   pub operations : (j : ℕ) → j < p .count → T (isOperation (operationIn EVENTS w j))
   pub own : p .own ≡ firstFrom (ownEvent x) past es
   pub crash : p .crash ≡ firstFrom isCrash past es
-  pub leads : (kept : List Event) (places : List ℕ) → Thins x past (drop past (take m es)) kept places
-      → Leads x 0 (take m es) (eventsIn w (p .count) ++ kept) (placesIn w (p .count) ++ places)
+  pub thinned : (kept : List Event) (places : List ℕ) → Thins x true past (drop past (take m es)) kept places
+      → Thinned x (take m es) (eventsIn w (p .count) ++ kept) (placesIn w (p .count) ++ places)
 
 -- Where the first event that names x is not among the first m events, none is kept.
 pub pick-none : {es : List Event} {w : List ℕ} {x m : ℕ} → Linked es w → x < 32 → m ≤ length es
-    → m ≤ getD w (headOf x) 0 → Leads x 0 (take m es) (eventsIn w 0) (placesIn w 0)
+    → m ≤ getD w (headOf x) 0 → Thinned x (take m es) (eventsIn w 0) (placesIn w 0)
 unfolding eventsFrom placesFrom
 pick-none {es} {w} {x} {m} linked h within none =
     let head = linked .heads x h in
-    begin (rest (none-own x (take m es) 0 (omega arith)
+    rest (none-own x (take m es) 0 (omega arith)
     (λ i l k. none-before es m (linked .few) within (ownEvent x) 0 i (omega arith) l
-    (omega (arith, short es m (linked .few) within)) (omega (arith, short es m (linked .few) within)))))
+    (omega (arith, short es m (linked .few) within)) (omega (arith, short es m (linked .few) within))))
 
 module _ {es : List Event} {w : List ℕ} {x m : ℕ} (linked : Linked es w) (within : m ≤ length es) where
   -- What a copy adds.
-  module _ (q k : ℕ) (inside : q < m) (low : k < 129) (kept : List Event) (places : List ℕ) where
+  module _ (q k : ℕ) (inside : q < m) (low : k < MOST) (kept : List Event) (places : List ℕ) where
     one-more :
-        Leads x 0 (take m es) (eventsIn w k ++ atPlace (take m es) q ∷ kept) (placesIn w k ++ q ∷ places)
-        → Leads x 0 (take m es) (eventsIn (copied q k w) (k + 1) ++ kept)
+        Thinned x (take m es) (eventsIn w k ++ atPlace (take m es) q ∷ kept) (placesIn w k ++ q ∷ places)
+        → Thinned x (take m es) (eventsIn (copied q k w) (k + 1) ++ kept)
         (placesIn (copied q k w) (k + 1) ++ places)
-    one-more leads =
+    one-more thinned =
         let event = linked-event linked q (omega arith) ∙ sym (getD-take m es q (Crash 0) inside) in
         rw (
           copied-events w q k (linked .room) low,
@@ -77,7 +77,7 @@ module _ {es : List Event} {w : List ℕ} {x m : ℕ} (linked : Linked es w) (wi
           linked .places q (omega arith),
           append-assoc (eventsIn w k) (atPlace (take m es) q ∷ []) kept,
           append-assoc (placesIn w k) (q ∷ []) places,
-        ) leads
+        ) thinned
 
   -- The first event that names x is copied first.
   pub pick-begun : (first : ℕ) → x < 32 → first ≡ getD w (headOf x) 0 → first < m
@@ -98,16 +98,16 @@ module _ {es : List Event} {w : List ℕ} {x m : ℕ} (linked : Linked es w) (wi
             (λ j l. absurd (omega arith));
         own = linked .owns x first (omega arith) (rw head names);
         crash = linked .crashes first (omega arith);
-        leads = λ kept places thins. one-more first 0 inside (omega arith) kept places
-            (lead-to x L first (omega arith)
-            (λ i l. none-before es m (linked .few) within (ownEvent x) 0 i (omega arith) (omega arith)
+        thinned = λ kept places thins. one-more first 0 inside (omega arith) kept places
+            (skip-to x L 0 first (omega arith) (omega arith)
+            (λ i l k. none-before es m (linked .few) within (ownEvent x) 0 i (omega arith) l
             (omega arith) (omega arith))
             (keep-at x L first (omega arith) thins));
       }
 
 module _ {es : List Event} {w : List ℕ} {x m : ℕ} {p : Pick} (up : UpTo es x m p w) where
   -- When no event that names x is left, nothing more is kept.
-  pub pick-done : m ≤ p .own → Leads x 0 (take m es) (eventsIn w (p .count)) (placesIn w (p .count))
+  pub pick-done : m ≤ p .own → Thinned x (take m es) (eventsIn w (p .count)) (placesIn w (p .count))
   pick-done h =
       let L = take m es in
       let few = up .linked .few in
@@ -116,28 +116,28 @@ module _ {es : List Event} {w : List ℕ} {x m : ℕ} {p : Pick} (up : UpTo es x
       (λ i a b. none-before es m few (up .within) (ownEvent x) (up .past) i (up .reached) a (omega arith)
       (omega (arith, up .own))) in
       rw (append-nil (eventsIn w (p .count)), append-nil (placesIn w (p .count))) at
-      (up .leads [] [] (rest none))
+      (up .thinned [] [] (rest none))
 
   inside : up .past ≤ length es
   inside = omega (arith, up .reached, up .within)
-
-  -- There is room for one event more.
-  pub pick-room : p .count < 129
-  pick-room = omega (arith, up .few, inside, up .linked .few)
 
   module _ (more : p .own < m) where
     own-first : First (ownEvent x) es (up .linked .few) (up .past) (p .own)
     own-first = rw (up .own) (first-of (ownEvent x) es (up .linked .few) (up .past) inside)
 
+    -- There is room for one event more.
+    pub pick-room : p .count < MOST
+    pick-room = omega (arith, up .few, own-first .after, up .within, up .linked .few)
+
     crash-first : First isCrash es (up .linked .few) (up .past) (p .crash)
     crash-first = rw (up .crash) (first-of isCrash es (up .linked .few) (up .past) inside)
 
     -- An event at q is copied before which none from `past` on concerns x.
-    next-leads : (q : ℕ) → up .past ≤ q → q < m → q ≤ p .own → q ≤ p .crash
-        → (kept : List Event) (places : List ℕ) → Thins x (suc q) (drop (suc q) (take m es)) kept places
-        → Leads x 0 (take m es) (eventsIn (copied q (p .count) w) (p .count + 1) ++ kept)
+    next-thinned : (q : ℕ) → up .past ≤ q → q < m → q ≤ p .own → q ≤ p .crash
+        → (kept : List Event) (places : List ℕ) → Thins x true (suc q) (drop (suc q) (take m es)) kept places
+        → Thinned x (take m es) (eventsIn (copied q (p .count) w) (p .count + 1) ++ kept)
         (placesIn (copied q (p .count) w) (p .count + 1) ++ places)
-    next-leads q a b c d kept places thins =
+    next-thinned q a b c d kept places thins =
         let L = take m es in
         let few = up .linked .few in
         let within = up .within in
@@ -149,7 +149,7 @@ module _ {es : List Event} {w : List ℕ} {x m : ℕ} {p : Pick} (up : UpTo es x
         (none-before es m few within isCrash (up .past) i (up .reached) k (omega arith)
         (omega (arith, up .crash))) in
         one-more (up .linked) within q (p .count) b pick-room kept places
-        (up .leads (atPlace L q ∷ kept) (q ∷ places)
+        (up .thinned (atPlace L q ∷ kept) (q ∷ places)
         (skip-to x L (up .past) q a (omega arith) apart (keep-at x L q (omega arith) thins)))
 
     -- A crash that comes before the next event that names x is copied.
@@ -173,7 +173,7 @@ module _ {es : List Event} {w : List ℕ} {x m : ℕ} {p : Pick} (up : UpTo es x
               (up .linked .operations q (omega arith)) (up .operations);
           own = up .own ∙ sym later;
           crash = up .linked .crashes q (omega arith);
-          leads = next-leads q after (omega arith) (omega arith) (omega arith);
+          thinned = next-thinned q after (omega arith) (omega arith) (omega arith);
         }
 
     -- The next event that names x is copied, where no crash comes before it.
@@ -198,7 +198,7 @@ module _ {es : List Event} {w : List ℕ} {x m : ℕ} {p : Pick} (up : UpTo es x
               (up .linked .operations q (omega arith)) (up .operations);
           own = up .linked .owns x q (omega arith) names;
           crash = up .crash ∙ sym later ∙ next;
-          leads = next-leads q after more (omega arith) h;
+          thinned = next-thinned q after more (omega arith) h;
         }
 
     -- One event more is copied.

@@ -1,12 +1,12 @@
 -- The words of steps whose counts of kept events become places of the log.
-use Prim.Native.Nat.{ℕ, _+_, _≤_, _<_}
+use Prim.Native.Nat.{ℕ, _+_, _*_, _≤_, _<_}
 use mathlib.Core.Path.{_≡_}
 use mathlib.Core.List.{List, map}
 use lib.ListN.{length, getD}
 use lib.Seq.{slice}
 use Rattle.model.specs.Schedule.{Step}
 use Rattle.model.specs.Words.{stepOfWord}
-use Rattle.scratch.specs.Layout.{EVENTS, STEPS, WORDS, OnlyIn}
+use Rattle.scratch.specs.Layout.{EVENTS, STEPS, WORDS, MOST, MOST-STEPS, OnlyIn}
 use Rattle.scratch.specs.Words.{countOf}
 use Rattle.events.specs.Thinning.{retimed}
 use Rattle.events.specs.Linking.{placeIn, placesIn}
@@ -18,9 +18,9 @@ wordsBetween from to w = slice (STEPS + from) (STEPS + to) w
 -- The list has room, and each of these words has a count of kept events below k.
 pub record Retimable (k from to : ℕ) (w : List ℕ) : Type 0 where
   pub room : WORDS ≤ length w
-  pub few : k ≤ 129
+  pub few : k ≤ MOST
   pub order : from ≤ to
-  pub short : to ≤ 512
+  pub short : to ≤ 2 * MOST-STEPS
   pub counts : (j : ℕ) → from ≤ j → j < to → countOf (getD w (STEPS + j) 0) < k
 
 -- Their steps are retimed by the places of the k events from EVENTS on, and no other word has changed.

@@ -1,7 +1,7 @@
 -- The events of a list that matter at a location: its own, and the crashes between the first and the last of these.
 -- The others leave the location as it is, or come where nothing depends on them.
 use Prim.Native.Nat.{ℕ, suc}
-use mathlib.Core.Bool.{Bool, true, not, _&&_}
+use mathlib.Core.Bool.{Bool, true, false, not, _&&_}
 use mathlib.Core.List.{List, [], _∷_, map}
 use lib.Dec.{T}
 use lib.ListN.{getD}
@@ -14,20 +14,23 @@ unfoldable pub noneOwn : Location → List Event → Bool
 noneOwn x [] = true
 noneOwn x (e ∷ es) = not (ownEvent x e) && noneOwn x es
 
--- The events es stand at the places from n on; those at `places` are kept. Left out are events that do not concern x,
--- and all after the last one that names x.
-pub data Thins (x : Location) : ℕ → List Event → (kept : List Event) (places : List ℕ) → Type 0 where
-  rest : {n : ℕ} {es : List Event} → T (noneOwn x es) → Thins x n es [] []
-  keep : {n : ℕ} {e : Event} {es kept : List Event} {places : List ℕ}
-      → Thins x (suc n) es kept places → Thins x n (e ∷ es) (e ∷ kept) (n ∷ places)
-  skip : {n : ℕ} {e : Event} {es kept : List Event} {places : List ℕ}
-      → T (not (eventAt x e)) → Thins x (suc n) es kept places → Thins x n (e ∷ es) kept places
+-- The events that must be kept: those that name x, and once one was kept, crashes too.
+abbrev pub matters : (begun : Bool) → Location → Event → Bool
+matters true x e = eventAt x e
+matters false x e = ownEvent x e
 
--- Left out too is what comes before the first event that names x.
-pub data Leads (x : Location) : ℕ → List Event → (kept : List Event) (places : List ℕ) → Type 0 where
-  begin : {n : ℕ} {es kept : List Event} {places : List ℕ} → Thins x n es kept places → Leads x n es kept places
-  before : {n : ℕ} {e : Event} {es kept : List Event} {places : List ℕ}
-      → T (not (ownEvent x e)) → Leads x (suc n) es kept places → Leads x n (e ∷ es) kept places
+-- The events es stand at the places from n on; those at `places` are kept, and `begun` says whether any was before.
+-- Left out are events that need not be kept, and all after the last one that names x.
+pub data Thins (x : Location) : Bool → ℕ → List Event → (kept : List Event) (places : List ℕ) → Type 0 where
+  rest : {begun : Bool} {n : ℕ} {es : List Event} → T (noneOwn x es) → Thins x begun n es [] []
+  keep : {begun : Bool} {n : ℕ} {e : Event} {es kept : List Event} {places : List ℕ}
+      → Thins x true (suc n) es kept places → Thins x begun n (e ∷ es) (e ∷ kept) (n ∷ places)
+  skip : {begun : Bool} {n : ℕ} {e : Event} {es kept : List Event} {places : List ℕ}
+      → T (not (matters begun x e)) → Thins x begun (suc n) es kept places → Thins x begun n (e ∷ es) kept places
+
+-- What is kept of all events.
+abbrev pub Thinned : Location → List Event → (kept : List Event) (places : List ℕ) → Type 0
+Thinned x es kept places = Thins x false 0 es kept places
 
 -- A step of the kept events as a step of all: the count of kept events before it becomes the place of the next one.
 unfoldable pub retimed : List ℕ → List Step → List Step

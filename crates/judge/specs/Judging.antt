@@ -13,7 +13,7 @@ use Rattle.verdict_file.specs.Files.{Verdict, allowed, impossible, fileOf}
 use Rattle.verdict_file.specs.Writing.{room, put}
 use Rattle.replay.specs.Replaying as replaying
 use Rattle.replay.specs.Replaying.{replayLog}
-use Rattle.judge.specs.Clearing.{zeros}
+use Rattle.scratch.specs.Clearing.{zeros}
 use Rattle.judge.specs.declared.Judged as judged
 
 -- A verdict: 1 if allowed or 0 if impossible, the number of the first impossible event or 0, the step count, and the

@@ -1,6 +1,2 @@
-pub mod Clearing
-pub mod Parts
-pub mod Gathering
-pub mod Visiting
 pub mod Judging
-pub mod Settling
+pub mod Issuing

@@ -1,19 +1,18 @@
 // Is there a run, and which? `judge` finds a schedule that explains a log, or names the first impossible event, and
 // writes the verdict file. specs/Judging.antt says what it answers and leaves.
-mod clearing;
-mod settling;
-mod visiting;
+mod issuing;
 
-use clearing::clear;
 use cursors::opening::open;
 use events::load;
 use fields::Refusal;
+use issuing::issue;
 use log::Head;
 use reader::Reading;
 use reader::read;
 use scratch::WORDS;
-use settling::settle;
+use scratch::clear;
 use verdict_file::filling::has_room;
+use weighing::weigh;
 ghost use mathlib.Core.Path.{_≡_};
 ghost use mathlib.Core.Bool.{true};
 ghost use Rattle.log.specs.Records.{Records};
@@ -40,7 +39,8 @@ fn decide(log: &[u8], head: Head, out: &mut [u8], offset: usize, scratch: &mut [
     let opened = open(log, head);
     let events = head.events as usize;
     load(log, opened.events, scratch, events);
-    let answer = settle(opened.topology, events, out, offset, scratch);
+    let found = weigh(scratch, opened.topology, events);
+    let answer = issue(found, out, offset, &*scratch);
     clear(scratch);
     answer
 }

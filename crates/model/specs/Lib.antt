@@ -5,6 +5,7 @@ pub mod Sharers
 pub mod OneLocation
 pub mod Goes
 pub mod Sums
+pub mod Allowance
 pub mod Words
 pub mod Meaning
 pub mod MarkedLogs

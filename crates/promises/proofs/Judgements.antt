@@ -19,7 +19,7 @@ use Rattle.verdict_file.proofs.Put.{put-there}
 use Rattle.replay.specs.Replaying as replaying
 use Rattle.replay.specs.Replaying.{replayLog}
 use Rattle.replay.proofs.Demand2.{yes-few}
-use Rattle.judge.specs.Clearing.{zeros}
+use Rattle.scratch.specs.Clearing.{zeros}
 use Rattle.judge.specs.Judging.{gives, refused, answerOf, told, Outcome, outcomeOf, refusal, verdict, areasFit}
 use Rattle.judge.specs.Judging.{Right, JudgesLog, Judges}
 use Rattle.judge.specs.declared.Judged.{Judged}

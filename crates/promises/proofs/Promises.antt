@@ -33,7 +33,7 @@ use Rattle.replay.specs.Replaying.{Stops, Admitted, replayLog}
 use Rattle.replay.specs.Answers as replay
 use Rattle.replay.specs.declared.Replayed.{Replayed}
 use Rattle.replay.proofs.Demand2
-use Rattle.judge.specs.Clearing.{zeros}
+use Rattle.scratch.specs.Clearing.{zeros}
 use Rattle.judge.specs.Judging.{Answer, gives, refused, answerOf, outcomeOf, told, areasFit, Judges}
 use Rattle.judge.specs.declared.Judged.{Judged}
 use Rattle.promises.proofs.Readings

@@ -10,16 +10,17 @@ use lib.ListN.{length}
 use Rattle.model.specs.Cxl0.{Topology, start}
 use Rattle.model.specs.Schedule.{Step, weave, inOrder}
 use Rattle.model.specs.Meaning.{topologyOf}
-use Rattle.states.specs.States.{stateOf}
 use Rattle.model.proofs.Tests.{and-l, and-r}
+use Rattle.states.specs.States.{stateOf}
 use Rattle.log.specs.Records.{Records, systemOf}
 use Rattle.log.proofs.Checks.{clash}
 use Rattle.cursors.specs.Opening.{Opens}
 use Rattle.cursors.specs.Cursors.{Events}
 use Rattle.cursors.specs.declared.Opened.{Opened}
 use Rattle.verdict_file.specs.Answers.{gives, refused}
-use Rattle.verdict_file.specs.Schedules.{everyStepFits, scheduleFits, readSchedule, counted}
-use Rattle.verdict_file.proofs.Accepted.{accepts, from-first}
+use Rattle.verdict_file.specs.Fitting.{everyStepFits, scheduleFits}
+use Rattle.schedules.specs.Schedules.{readSchedule, counted}
+use Rattle.schedules.proofs.Accepted.{accepts, from-first}
 use Rattle.replay.specs.Replaying.{Answer, replayed, withSchedule}
 use Rattle.replay.specs.Places.{Stands}
 use Rattle.replay.specs.declared.walking.Place.{Place}

@@ -17,9 +17,10 @@ use Rattle.log.specs.Records.{Records, systemOf}
 use Rattle.log.specs.Reading.{Log, accepted, rejected, readLog}
 use Rattle.log.proofs.Checks.{clash}
 use Rattle.verdict_file.specs.Files.{allowed, fileOf, stepsMost}
-use Rattle.verdict_file.specs.Schedules.{everyStepFits, scheduleFits, readSchedule}
+use Rattle.verdict_file.specs.Fitting.{everyStepFits, scheduleFits}
 use Rattle.verdict_file.proofs.Files.{length-allowed}
-use Rattle.verdict_file.proofs.Accepted.{accepts}
+use Rattle.schedules.specs.Schedules.{readSchedule}
+use Rattle.schedules.proofs.Accepted.{accepts}
 use Rattle.replay.specs.Replaying.{Answer, replayed, withSchedule, withLog, replayLog}
 use Rattle.replay.specs.Replaying.{Stops, Admitted}
 use Rattle.replay.proofs.Replays.{yes-iff-run, no-iff-stops, not-run-no, never-refused}

@@ -14,19 +14,19 @@ use Rattle.model.specs.Cxl0.{Event, Action, event, silent, Propagate, WriteBack
 use Rattle.model.specs.Operations.{isOperation}
 use Rattle.model.specs.Schedule.{Step, silentOf, steps, weaveFrom, inOrder}
 use Rattle.model.specs.Meaning.{topologyOf, withinLimits, Outcome, attempt, attemptEvent}
-use Rattle.states.specs.States.{stateOf}
 use Rattle.model.specs.declared.Topology.{Topology}
 use Rattle.model.specs.declared.Event as model
 use Rattle.model.proofs.Tests.{T→true}
 use Rattle.model.proofs.Weaving.{inOrder-cons, weave-due, weave-event}
+use Rattle.states.specs.States.{stateOf}
 use Rattle.log.proofs.Elements.{no-elements}
 use Rattle.log.proofs.Checks.{clash}
 use Rattle.log.specs.Payloads.{Numbers, eventWith}
 use Rattle.log.specs.Answers.{numbersOf}
 use Rattle.cursors.specs.Cursors.{eventAt, Events, next-event}
 use Rattle.cursors.proofs.Found.{operation-found}
-use Rattle.verdict_file.specs.Schedules.{stepAt, readSteps}
-use Rattle.verdict_file.proofs.Cursor.{walks, stops}
+use Rattle.schedules.specs.Schedules.{stepAt, readSteps}
+use Rattle.schedules.proofs.Cursor.{walks, stops}
 use Rattle.replay.specs.Replaying.{Answer, counted, replayFrom}
 use Rattle.replay.specs.Places.{Stands, Goes, Took}
 use Rattle.replay.specs.declared.walking.Place.{Place}

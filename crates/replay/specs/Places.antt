@@ -9,10 +9,10 @@ use lib.ListN.{length, drop}
 use Rattle.model.specs.Cxl0.{Event}
 use Rattle.model.specs.Schedule.{Step, weaveFrom, inOrder}
 use Rattle.model.specs.Meaning.{topologyOf, withinLimits, Outcome}
-use Rattle.states.specs.States.{stateOf}
 use Rattle.model.specs.declared.Topology.{Topology}
+use Rattle.states.specs.States.{stateOf}
 use Rattle.cursors.specs.Cursors.{Events}
-use Rattle.verdict_file.specs.Schedules.{readSteps}
+use Rattle.schedules.specs.Schedules.{readSteps}
 use Rattle.replay.specs.Replaying.{Answer, replayFrom}
 use Rattle.replay.specs.declared.walking.Place.{Place}
 use Rattle.replay.specs.declared.walking.Went.{Went}

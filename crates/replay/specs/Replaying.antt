@@ -13,7 +13,8 @@ use Rattle.model.specs.Schedule.{Step, weave}
 use Rattle.log.specs.Records.{Records, systemOf}
 use Rattle.log.specs.Reading.{Log, accepted, rejected, readLog}
 use Rattle.verdict_file.specs.Files.{allowed, fileOf}
-use Rattle.verdict_file.specs.Schedules.{scheduleFits, readSchedule}
+use Rattle.verdict_file.specs.Fitting.{scheduleFits}
+use Rattle.schedules.specs.Schedules.{readSchedule}
 
 -- Yes, or no and the number of events passed before the first thing not possible; or the number of a refusal.
 pub data Answer : Type 0 where

@@ -19,7 +19,7 @@ ghost use lib.ListN.{length};
 ghost use Rattle.log.specs.Records.{Records, systemOf};
 ghost use Rattle.log.specs.Reading.{accepted, readLog};
 ghost use Rattle.log.specs.Answers.{headOf};
-ghost use Rattle.verdict_file.specs.Schedules.{readSchedule};
+ghost use Rattle.schedules.specs.Schedules.{readSchedule};
 ghost use Rattle.replay.specs.Replaying.{withSchedule, replayLog};
 ghost use Rattle.replay.specs.Answers.{answerOf};
 

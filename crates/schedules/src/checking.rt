@@ -7,7 +7,8 @@ use verdict_file::TAG_VERDICT;
 ghost use mathlib.Core.Path.{_≡_};
 ghost use Rattle.model.specs.Meaning.{topologyOf};
 ghost use Rattle.schedules.specs.Answers.{stepOf};
-ghost use Rattle.verdict_file.specs.Schedules.{begins, isEnd, saysAllowed, stepFits, mayFollow};
+ghost use Rattle.verdict_file.specs.Fitting.{stepFits};
+ghost use Rattle.schedules.specs.Schedules.{begins, isEnd, saysAllowed, mayFollow};
 
 // A whole field of this tag and length stands first.
 pub(crate) fn begins_with(s: &[u8], tag: u8, len: u8) -> bool

@@ -1,5 +1,5 @@
 // What a verdict file says as a schedule. `read_schedule` accepts exactly the files that say allowed and fit
-// a log, and `step_at` hands out their steps. The bytes and what they give are definitions of `verdict_file`.
+// a log, and `step_at` hands out their steps. specs/Schedules.antt says what the bytes of a verdict file give.
 mod checking;
 
 use fields::Refusal;
@@ -10,7 +10,7 @@ use verdict_file::STEPS_MOST;
 use verdict_file::TAG_STEP;
 ghost use mathlib.Core.Path.{_≡_};
 ghost use Rattle.model.specs.Meaning.{topologyOf};
-ghost use Rattle.verdict_file.specs.Schedules.{stepAt, readSchedule, counted};
+ghost use Rattle.schedules.specs.Schedules.{stepAt, readSchedule, counted};
 ghost use Rattle.schedules.specs.Answers.{scheduledOf, stepAtOf};
 
 // The position of the first step in a file.

@@ -6,7 +6,7 @@ use mathlib.Core.List.{List}
 use lib.ListN.{length, take, drop}
 
 -- The fewest words of a scratch area, the most events that it holds, a log's 128 and one to spare, and the most steps
--- of a schedule.
+-- of a schedule, two for each event.
 abbrev pub WORDS : ℕ
 WORDS = 4096
 
@@ -14,7 +14,7 @@ abbrev pub MOST : ℕ
 MOST = 129
 
 abbrev pub MOST-STEPS : ℕ
-MOST-STEPS = 256
+MOST-STEPS = 2 * MOST
 
 -- The events that matter at the location at hand, two words each.
 abbrev pub EVENTS : ℕ

@@ -1,5 +1,5 @@
 // The scratch area: where its regions begin, as specs/Layout.antt has them, and the words of events, rows, the
-// values of the copies, and the waypoints of the walk, as specs/Words.antt has them.
+// values of the copies, and the waypoints of the walk, as specs/Words.antt has them; clearing it.
 //
 // Internal: only crates of this project call it, and they meet what it requires. The scratch area has at
 // least 4,096 words, an event's number is below 129, and a row's is at most 129.
@@ -11,6 +11,7 @@ ghost use mathlib.Core.Path.{_≡_};
 ghost use Prim.Native.Nat.{_+_, _≤_, _<_};
 ghost use lib.ListN.{length};
 ghost use Rattle.scratch.specs.Layout.{WORDS, MOST};
+ghost use Rattle.scratch.specs.Clearing.{zeros};
 ghost use Rattle.scratch.specs.Words.{pairAt, rowIn, copyIn, waypointIn, structIn};
 ghost use Rattle.scratch.specs.Words.{RowPut, CopyPut, WaypointPut};
 
@@ -19,7 +20,7 @@ pub const WORDS: usize = 4096;
 
 const MOST: usize = 129;
 
-const MOST_STEPS: usize = 256;
+const MOST_STEPS: usize = 2 * MOST;
 
 // The events that matter at the location at hand, the rows with the values of the copies, and the steps of the
 // locations so far. The walk's own steps may run on over the two regions after that, up to the waypoints.
@@ -133,4 +134,13 @@ pub fn put_waypoint(w: &mut [u64], t: usize, p: Waypoint)
     ensures { λ _. ⌜ WaypointPut (now (w .entry)) t p (now (w .exit)) ⌝ }
 {
     w[WAYPOINTS + t] = p.code as u64 + 256 * (p.memory as u64) + 1099511627776 * (p.end as u64);
+}
+
+// Makes every word 0, of an area of any length.
+pub fn clear(w: &mut [u64])
+    ensures { λ _. ⌜ now (w .exit) ≡ zeros (length (now (w .entry))) ⌝ }
+{
+    for i in 0..w.len() {
+        w[i] = 0;
+    }
 }

@@ -14,7 +14,7 @@ use Rattle.entries.specs.declared.Site.{Site}
 use Rattle.rows.specs.Rows.{state}
 use Rattle.rows.specs.Sites.{Describes, copyFrom}
 use Rattle.scratch.specs.declared.Waypoint.{Waypoint}
-use Rattle.scratch.specs.Layout.{ROWS, STEPS, MOST, OnlyIn}
+use Rattle.scratch.specs.Layout.{ROWS, STEPS, MOST, MOST-STEPS, OnlyIn}
 use Rattle.scratch.specs.Words.{eventsFrom, eventsIn, copyIn, CopyPut}
 use Rattle.walking.specs.Passes.{Copies, Fits}
 use Rattle.scratch.proofs.Frames.{only-wider}
@@ -74,15 +74,15 @@ module _ {s : Site} {count t : ℕ} {w w' : List ℕ} {p : Waypoint} (e : Explai
   explaining-end = omega (arith, path-led (e .path) .here)
 
   -- The path has room for its steps.
-  based : count ≤ 256 → Based s (STEPS + count) w' t p
+  based : count ≤ MOST-STEPS → Based s (STEPS + count) w' t p
   based short = record { low = omega arith; high = omega arith; path = e .path }
 
   -- Whether or not the walk goes on, the same words are kept.
-  kept-on : {r : Onward} {w'' : List ℕ} → count ≤ 256 → Onwards s t p w' r w'' → Kept (STEPS + count) w w''
+  kept-on : {r : Onward} {w'' : List ℕ} → count ≤ MOST-STEPS → Onwards s t p w' r w'' → Kept (STEPS + count) w w''
   kept-on short on = kept-then (e .kept) (on .kept (STEPS + count) (based short))
 
   -- The walk goes on over event t.
-  pub explaining-more : {r : Onward} {w'' : List ℕ} → count ≤ 256 → Onwards s t p w' r w'' → r .found ≡ true
+  pub explaining-more : {r : Onward} {w'' : List ℕ} → count ≤ MOST-STEPS → Onwards s t p w' r w'' → r .found ≡ true
       → Explaining s count w (suc t) (r .waypoint) w''
   explaining-more short on found =
       record {

@@ -3,12 +3,9 @@ pub mod Retracing
 pub mod Ready
 pub mod Prefixes
 pub mod OneMore
-pub mod Allowance
 pub mod Schedules
 pub mod Keeping
 pub mod Paths
 pub mod Resuming
 pub mod Explanations
 pub mod Continuing
-pub mod Rising
-pub mod Ordering

@@ -10,7 +10,7 @@ use lib.ListN.{length}
 use Rattle.model.specs.Cxl0.{Event, event, silent}
 use Rattle.model.specs.Schedule.{Step, silentOf, due, later, steps, weaveFrom, weave, inOrder}
 use Rattle.model.proofs.Weaving.{inOrder-cons, weave-due, weave-event}
-use Rattle.search.proofs.Ordering.{inOrder-append}
+use Rattle.model.proofs.Steps.{inOrder-append}
 
 -- All steps are due before one event.
 all-due : (e : Event) (k n : ℕ) (qs : List Step) → T (inOrder k n qs)

@@ -20,19 +20,19 @@ use Rattle.model.proofs.Expand.{start-inRange}
 use Rattle.model.proofs.Split.{own-named}
 use Rattle.model.proofs.Weaving.{events-weave, silents-weave}
 use Rattle.model.proofs.Potential.{rank-start}
+use Rattle.model.specs.Allowance.{allowance}
+use Rattle.model.proofs.Allowance.{rank-runs}
+use Rattle.model.proofs.Steps.{inOrder-append, silentAt-silentOf}
 use Rattle.entries.specs.declared.Site.{Site}
 use Rattle.rows.specs.Rows.{state}
 use Rattle.rows.specs.Sites.{Describes}
 use Rattle.rows.proofs.RowSteps.{begins}
 use Rattle.walking.specs.Trails.{stepAt, RunsTo}
 use Rattle.walking.specs.Walks.{Placed, Schedules}
-use Rattle.walking.specs.Allowance.{allowance}
 use Rattle.walking.proofs.Trails.{runsTo-none, runsTo-append}
 use Rattle.walking.proofs.StepWords.{at-inOrder, at-own, at-before}
 use Rattle.search.specs.Paths.{Leading}
-use Rattle.search.proofs.Ordering.{inOrder-append, silentAt-silentOf}
 use Rattle.search.proofs.OneMore.{weave-more}
-use Rattle.search.proofs.Allowance.{rank-runs}
 
 -- The silent steps of the actions are those of the schedule.
 abbrev Of : List Step → List Action → Type 0

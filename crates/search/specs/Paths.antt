@@ -15,7 +15,7 @@ use Rattle.entries.specs.declared.Site.{Site}
 use Rattle.rows.specs.Rows.{state}
 use Rattle.rows.specs.Sites.{Known, Describes, copyFrom}
 use Rattle.scratch.specs.declared.Waypoint.{Waypoint}
-use Rattle.scratch.specs.Layout.{ROWS, STEPS, SORTED, LOG, WORDS, MOST, OnlyIn}
+use Rattle.scratch.specs.Layout.{ROWS, STEPS, SORTED, LOG, WORDS, MOST, MOST-STEPS, OnlyIn}
 use Rattle.scratch.specs.Words.{eventsIn, rowIn, copyIn, waypointIn, structIn, wordsAt}
 use Rattle.walking.specs.Passes.{Copies, Answers, Fits, Ready, OnlyRows}
 use Rattle.walking.specs.Trails.{RunsTo}
@@ -136,7 +136,7 @@ pub record Onwards (s : Site) (t : ℕ) (p : Waypoint) (w : List ℕ) (r : Onwar
 pub record Explainable (s : Site) (k count : ℕ) (w : List ℕ) : Type 0 where
   pub room : WORDS ≤ length w
   pub few : k ≤ MOST
-  pub short : count ≤ 256
+  pub short : count ≤ MOST-STEPS
   pub known : (j : ℕ) → j < k → Known (structIn w j)
   pub system : Topology
   pub placed : Placed system s (eventsIn w k)

@@ -86,7 +86,8 @@ impl State {
         let mut at: usize = 0;
         while at < LOCATIONS {
             let held = self.entries[at];
-            let x = Location(at as u8);
+            let y = at as u8;
+            let x = Location(y);
             let made = held.masked(n).act(Site::of(t, x), e);
             let after = made.entry;
             self.entries[at] = after;

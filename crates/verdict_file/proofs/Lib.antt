@@ -3,9 +3,5 @@ pub mod Files
 pub mod Put
 pub mod Words
 pub mod Writing
+pub mod Fitting
 pub mod Writable
-pub mod Fields
-pub mod Cursor
-pub mod Homes
-pub mod Remaining
-pub mod Accepted

@@ -9,7 +9,7 @@ use Rattle.model.specs.Cxl0.{Topology, isLocation, owner}
 use Rattle.model.specs.Schedule.{Step, inOrder}
 use Rattle.model.proofs.Tests.{and-i, and-l, and-r}
 use Rattle.verdict_file.specs.Files.{allowed, impossible, stepsMost, eventsMost}
-use Rattle.verdict_file.specs.Schedules.{stepFits, everyStepFits, scheduleFits}
+use Rattle.verdict_file.specs.Fitting.{stepFits, everyStepFits, scheduleFits}
 use Rattle.verdict_file.specs.Writing.{threeBytes, allThreeBytes, writable}
 
 -- A system and a log within the limits.

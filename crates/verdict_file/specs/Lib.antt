@@ -1,4 +1,4 @@
 pub mod Files
 pub mod Answers
+pub mod Fitting
 pub mod Writing
-pub mod Schedules

@@ -10,6 +10,7 @@ use Rattle.model.specs.Cxl0.{Event, event, silent, named, allNamed}
 use Rattle.model.specs.Schedule.{Step, silentOf, steps, weave, inOrder}
 use Rattle.model.specs.OneLocation.{HasRunAt, startAt, runsAt}
 use Rattle.model.specs.OneLocation.{Reaches}
+use Rattle.model.specs.Allowance.{allowance}
 use Rattle.rows.specs.declared.Row.{Row}
 use Rattle.entries.specs.declared.Site.{Site}
 use Rattle.rows.specs.Rows.{state, Fine, Right}
@@ -17,10 +18,9 @@ use Rattle.rows.specs.Sites.{Describes, copyAfter}
 use Rattle.scratch.specs.declared.Waypoint.{Waypoint}
 use Rattle.scratch.specs.Words.{eventIn, rowIn, copyIn}
 use Rattle.scratch.specs.Layout.{WORDS}
-use Rattle.walking.specs.Passes.{Steppable}
 use Rattle.scratch.specs.Stored.{Stored}
+use Rattle.walking.specs.Passes.{Steppable}
 use Rattle.walking.specs.Trails.{Trail, stepAt, wordOf, RunsTo}
-use Rattle.walking.specs.Allowance.{allowance}
 
 -- The words of steps of the site after t events by these machines are stored from `place` on.
 abbrev pub Noted : Site → ℕ → List Machine → List ℕ → ℕ → List ℕ → ℕ → Type 0

@@ -59,7 +59,7 @@ fn put_if(w: &mut [u64], at: usize, yes: bool, word: u64) -> usize
 }
 
 // Machine i is in the set of code c.
-pub fn holds(c: u8, i: Machine) -> bool
+fn holds(c: u8, i: Machine) -> bool
     requires { ⌜ (c < 64) × OneToSix (i .0) ⌝ }
     ensures { λ r. ⌜ r ≡ has (i .0) c ⌝ }
 {

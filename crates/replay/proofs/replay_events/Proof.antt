@@ -2,17 +2,17 @@
 use native.Mathlib.Omega.{arith}
 use mathlib.Core.Path.{_≡_, refl, sym, ap, _∙_}
 use denote.Ref.{now}
+use Rattle.model.specs.Meaning.{topologyOf}
 use Rattle.log.specs.Records.{Records}
 use Rattle.log.specs.Reading.{accepted, readLog}
 use Rattle.log.specs.Answers.{headOf}
 use Rattle.log.proofs.Each.{bytes-by-index}
+use Rattle.log.specs.declared.Head.{Head}
 use Rattle.cursors.specs.Opening.{Opens}
 use Rattle.cursors.proofs.Opens.{opens-accepted}
-use Rattle.model.specs.Meaning.{topologyOf}
-use Rattle.log.specs.declared.Head.{Head}
 use Rattle.verdict_file.specs.Answers.{gives}
 use Rattle.schedules.specs.Answers.{scheduledOf}
-use Rattle.verdict_file.specs.Schedules.{readSchedule, counted}
+use Rattle.schedules.specs.Schedules.{readSchedule, counted}
 use Rattle.replay.specs.Replaying.{Answer}
 use Rattle.replay.proofs.Beginning.{steps-read, none-read, count-few}
 use Rattle.replay.proofs.Beginning.{stands-first, with-steps, with-none}

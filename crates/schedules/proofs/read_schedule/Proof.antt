@@ -12,13 +12,13 @@ use borrow.Author.Needs.{needs}
 use borrow.Author.Tests.{not-true, not-false}
 use Rattle.model.specs.Cxl0.{Topology}
 use Rattle.model.specs.Meaning.{topologyOf}
-use Rattle.schedules.specs.Answers.{stepOf, stepAtOf}
-use Rattle.verdict_file.specs.Schedules.{stepAt, saysAllowed, readSchedule, counted}
-use Rattle.verdict_file.proofs.Fields.{long-header}
 use Rattle.verdict_file.proofs.Put.{part-drop}
-use Rattle.verdict_file.proofs.Cursor.{within}
-use Rattle.verdict_file.proofs.Remaining.{remaining, not-allowed, at-first}
-use Rattle.verdict_file.proofs.Remaining.{follows, misfits, ends, breaks, too-many}
+use Rattle.schedules.specs.Answers.{stepOf, stepAtOf}
+use Rattle.schedules.specs.Schedules.{stepAt, saysAllowed, readSchedule, counted}
+use Rattle.schedules.proofs.Fields.{long-header}
+use Rattle.schedules.proofs.Cursor.{within}
+use Rattle.schedules.proofs.Remaining.{remaining, not-allowed, at-first}
+use Rattle.schedules.proofs.Remaining.{follows, misfits, ends, breaks, too-many}
 use Rattle.schedules.proofs.read_schedule.Statement.{statement}
 use Rattle.schedules.proofs.read_schedule.Tie as tie
 

@@ -39,7 +39,7 @@ returns c =
     record {
       frame = only-none EVENTS ROWS (start .args .w .now);
       few = omega arith;
-      leads = λ es linked within. pick-none linked (start .pre .1) within
+      thinned = λ es linked within. pick-none linked (start .pre .1) within
           (rw (head .head-of .ensures) at (c .if1 .taken));
       operations = λ es linked within j h. absurd (omega arith);
     }
@@ -91,7 +91,7 @@ loop-holds c =
 pick-one-requires : tie.Need-pick-one-requires Inv-loop μ-loop
 pick-one-requires c κs =
     let up = turn (c .before .before .before) in
-    (up .linked .room, omega (arith, up .within, up .linked .few), pick-room up)
+    (up .linked .room, omega (arith, up .within, up .linked .few), pick-room up (c .before .if2 .taken))
 
 loop-less : tie.Need-loop-less Inv-loop μ-loop
 loop-less c =
@@ -106,7 +106,8 @@ loop-again c =
     let up = turn h in
     let p = h .loop .p in
     let done = c .before .before .pick-one .ensures in
-    let copy = copied-frame (h .loop .w) (nearer p) (p .count) (up .linked .room) (pick-room up) in (
+    let copy = copied-frame (h .loop .w) (nearer p) (p .count) (up .linked .room)
+    (pick-room up (c .before .before .before .before .if2 .taken)) in (
       only-then (h .loop .inv .0) (rw (done .0) copy),
       λ x es e linked within. rw (done .0, done .1)
           (pick-more (h .loop .inv .1 x es e linked within) (c .before .before .before .before .if2 .taken)),
@@ -126,7 +127,7 @@ returns-2 c =
     record {
       frame = only-then first (h .loop .inv .0);
       few = omega (arith, up .few, up .reached);
-      leads = λ es linked within.
+      thinned = λ es linked within.
           pick-done (h .loop .inv .1 _ es at (linked-same first linked) within) (c .if2 .left);
       operations = λ es linked within. h .loop .inv .1 _ es at (linked-same first linked) within .operations;
     }

@@ -4,7 +4,7 @@ use mathlib.Core.Path.{_≡_, sym, ap, _∙_}
 use mathlib.Core.Option.{some}
 use denote.Ref.{now}
 use Rattle.schedules.specs.Answers.{stepOf, stepAtOf}
-use Rattle.verdict_file.specs.Schedules.{stepAt}
+use Rattle.schedules.specs.Schedules.{stepAt}
 use Rattle.replay.proofs.Going.{step-goes, event-goes, event-goes-last}
 use borrow.Author.Needs.{needs}
 use Rattle.replay.proofs.walking.take_next.Statement.{statement}

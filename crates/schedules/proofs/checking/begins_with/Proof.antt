@@ -4,7 +4,7 @@ use lib.ListN.{length, getD}
 use denote.Ref.{now}
 use borrow.Author.Needs.{needs}
 use borrow.Author.Tests.{le-leb, lt-leb, eq-eqb, ne-eqb}
-use Rattle.verdict_file.specs.Schedules.{starts, begins}
+use Rattle.schedules.specs.Schedules.{starts, begins}
 use Rattle.schedules.proofs.checking.begins_with.Statement.{statement}
 use Rattle.schedules.proofs.checking.begins_with.Tie as tie
 

@@ -2,7 +2,7 @@
 use mathlib.Core.Path.{sym, _∙_}
 use borrow.Author.Needs.{needs}
 use borrow.Author.Tests.{not-true, not-false}
-use Rattle.verdict_file.specs.Schedules.{isEnd}
+use Rattle.schedules.specs.Schedules.{isEnd}
 use Rattle.schedules.proofs.checking.is_end.Statement.{statement}
 use Rattle.schedules.proofs.checking.is_end.Tie as tie
 

@@ -1,7 +1,7 @@
 -- `may_follow` says whether a step may come next.
 use borrow.Author.Needs.{needs}
 use borrow.Author.Tests.{le-leb, lt-leb}
-use Rattle.verdict_file.specs.Schedules.{mayFollow}
+use Rattle.schedules.specs.Schedules.{mayFollow}
 use Rattle.schedules.proofs.checking.may_follow.Statement.{statement}
 use Rattle.schedules.proofs.checking.may_follow.Tie as tie
 

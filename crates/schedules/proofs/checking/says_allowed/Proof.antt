@@ -6,8 +6,8 @@ use lib.ListN.{getD}
 use denote.Ref.{now}
 use borrow.Author.Needs.{needs}
 use borrow.Author.Tests.{not-true, not-false, eq-eqb, ne-eqb}
-use Rattle.verdict_file.specs.Schedules.{begins, saysAllowed}
-use Rattle.verdict_file.proofs.Fields.{long}
+use Rattle.schedules.specs.Schedules.{begins, saysAllowed}
+use Rattle.schedules.proofs.Fields.{long}
 use Rattle.schedules.proofs.checking.says_allowed.Statement.{statement}
 use Rattle.schedules.proofs.checking.says_allowed.Tie as tie
 

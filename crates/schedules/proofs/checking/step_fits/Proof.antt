@@ -6,8 +6,8 @@ use lib.ListN.{length, length-map}
 use borrow.Author.Needs.{needs}
 use borrow.Author.Tests.{le-leb, lt-leb}
 use Rattle.model.specs.Meaning.{topologyOf}
-use Rattle.verdict_file.specs.Schedules.{stepFits}
-use Rattle.verdict_file.proofs.Homes.{listed, unlisted, beyond, owner-of}
+use Rattle.verdict_file.specs.Fitting.{stepFits}
+use Rattle.schedules.proofs.Homes.{listed, unlisted, beyond, owner-of}
 use Rattle.schedules.proofs.checking.step_fits.Statement.{statement}
 use Rattle.schedules.proofs.checking.step_fits.Tie as tie
 

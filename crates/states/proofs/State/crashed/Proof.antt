@@ -32,8 +32,8 @@ mul-held c = omega arith
 element-copy-out-held : tie.Need-element-copy-out-held Inv-loop μ-loop
 element-copy-out-held c = omega arith
 
-cast-t16 : tie.Need-cast-t16 Inv-loop μ-loop
-cast-t16 c = omega arith
+cast-y : tie.Need-cast-y Inv-loop μ-loop
+cast-y c = omega arith
 
 mul-after : tie.Need-mul-after Inv-loop μ-loop
 mul-after c = omega arith
@@ -77,7 +77,7 @@ crashed-spec =
     loop-holds
     mul-held
     element-copy-out-held
-    cast-t16
+    cast-y
     nothing
     nothing
     nothing

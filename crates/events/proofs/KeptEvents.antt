@@ -1,0 +1,96 @@
+-- The events kept for a location and their places: what the first of them are kept of, that the places
+-- rise, and that the kept events allow for no more steps and name no more than all events.
+use Prim.Native.Nat.{ℕ, zero, suc, _+_, _≤_, _<_}
+use native.Mathlib.Nat.{not-suc-le-zero, le-of-suc-le-suc, zero-add}
+use native.Mathlib.Omega.{arith}
+use mathlib.Core.Path.{_≡_, refl}
+use mathlib.Core.Bool.{Bool}
+use mathlib.Core.List.{List, [], map}
+use lib.Dec.{T}
+use lib.ListN.{length, getD, take}
+use Rattle.model.specs.Cxl0.{Location, Topology, Event, event, named, allNamed, count}
+use Rattle.model.proofs.Tests.{and-r}
+use Rattle.model.proofs.Merge.{and-map}
+use Rattle.model.specs.Allowance.{allowance}
+use Rattle.model.proofs.Allowance.{allowance-cons}
+use Rattle.events.specs.Thinning.{noneOwn, Thins, rest, keep, skip, Thinned}
+
+-- ---- the first of the events
+
+-- The first d kept events are those kept of the first j events, and one more is kept of one more.
+abbrev Cut : Location → Bool → ℕ → List Event → List Event → List ℕ → ℕ → Type 0
+Cut x begun n es kept places d =
+    (j : ℕ)
+    × (getD places d 0 ≡ n + j)
+    × (j < length es)
+    × Thins x begun n (take j es) (take d kept) (take d places)
+    × Thins x begun n (take (suc j) es) (take (suc d) kept) (take (suc d) places)
+
+thins-cut : {x : Location} {begun : Bool} {n : ℕ} {es kept : List Event} {places : List ℕ}
+    → Thins x begun n es kept places → (d : ℕ) → d < length kept → Cut x begun n es kept places d
+unfolding noneOwn
+thins-cut (rest t) d l = absurd (not-suc-le-zero l)
+thins-cut (keep h) zero l = (0, omega arith, omega arith, rest tt, keep (rest tt))
+thins-cut (keep h) (suc d) l =
+    let c = thins-cut h d (le-of-suc-le-suc l) in
+    (suc (c .0), omega (arith, c .1), omega (arith, c .2), keep (c .3), keep (c .4))
+thins-cut (skip t h) d l =
+    let c = thins-cut h d l in
+    (suc (c .0), omega (arith, c .1), omega (arith, c .2), skip t (c .3), skip t (c .4))
+
+-- Let m be the place of kept event d. The first d kept events are those kept of the first m events, and one
+-- more is kept of one more.
+pub thinned-take : {x : Location} {es kept : List Event} {places : List ℕ} → Thinned x es kept places
+    → (d : ℕ) → d < length kept
+    → let m = getD places d 0 in
+    (m < length es)
+    × Thinned x (take m es) (take d kept) (take d places)
+    × Thinned x (take (suc m) es) (take (suc d) kept) (take (suc d) places)
+thinned-take h d l =
+    let c = thins-cut h d l in
+    rw (c .1, zero-add (c .0)) (c .2, c .3, c .4)
+
+-- ---- the places
+
+-- The places of the kept events are places of the events.
+pub thins-places : {x : Location} {begun : Bool} {n : ℕ} {es kept : List Event} {places : List ℕ}
+    → Thins x begun n es kept places
+    → (d : ℕ) → d < length kept → (n ≤ getD places d 0) × (getD places d 0 < n + length es)
+thins-places h d l = let c = thins-cut h d l in (omega (arith, c .1), omega (arith, c .1, c .2))
+
+-- The places rise.
+pub thins-rise : {x : Location} {begun : Bool} {n : ℕ} {es kept : List Event} {places : List ℕ}
+    → Thins x begun n es kept places
+    → (c d : ℕ) → c < d → d < length kept → getD places c 0 < getD places d 0
+thins-rise (rest t) c d g l = absurd (not-suc-le-zero l)
+thins-rise (keep h) c zero g l = absurd (not-suc-le-zero g)
+thins-rise (keep h) zero (suc d) g l = omega (arith, thins-places h d (le-of-suc-le-suc l))
+thins-rise (keep h) (suc c) (suc d) g l = thins-rise h c d (le-of-suc-le-suc g) (le-of-suc-le-suc l)
+thins-rise (skip t h) c d g l = thins-rise h c d g l
+
+-- ---- what is allowed for
+
+-- The kept events allow for no more steps than all events do.
+pub thins-allowance : {x : Location} {begun : Bool} {n : ℕ} {es kept : List Event} {places : List ℕ}
+    → Thins x begun n es kept places → allowance x kept ≤ allowance x es
+thins-allowance {x} (rest {es} t) =
+    let none : allowance x [] ≡ 0 = unfold allowance count in refl in
+    omega arith
+thins-allowance {x} (keep {e} {es} {kept} h) =
+    omega (arith, allowance-cons x e es, allowance-cons x e kept, thins-allowance h)
+thins-allowance {x} (skip {e} {es} t h) = omega (arith, allowance-cons x e es, thins-allowance h)
+
+-- ---- what is named
+
+module _ (sys : Topology) where
+  -- The kept events name machines and locations of the system if all do.
+  pub thins-named : {x : Location} {begun : Bool} {n : ℕ} {es kept : List Event} {places : List ℕ}
+      → Thins x begun n es kept places → T (allNamed sys (map event es)) → T (allNamed sys (map event kept))
+  unfolding allNamed
+  thins-named (rest t) a = tt
+  thins-named (keep {e} {es} {kept} h) a =
+      and-map (named sys (event e)) (allNamed sys (map event es)) (allNamed sys (map event kept))
+      (thins-named h)
+      a
+  thins-named (skip {e} {es} t h) a =
+      thins-named h (and-r (named sys (event e)) (allNamed sys (map event es)) a)

@@ -1,0 +1,228 @@
+-- Steps for the events kept for a location, retimed by their places, run with all events as they do with those kept.
+use Prim.Native.Nat.{ℕ, suc, _+_, _-_, _≤_, _<_}
+use native.Mathlib.Nat.{eq-or-lt-of-le}
+use native.Mathlib.Omega.{arith}
+use mathlib.Core.Path.{_≡_, refl, ap, _∙_}
+use mathlib.Core.Logic.{⊎-elim}
+use mathlib.Core.Bool.{Bool, true, not, _&&_}
+use mathlib.Core.List.{List, [], _∷_, map, Memᴰ·of-map}
+use mathlib.Core.List.{List·Memᴰ, List·Memᴰ·head, List·Memᴰ·tail}
+use lib.Dec.{T}
+use lib.ListN.{length, getD}
+use Rattle.model.specs.Cxl0.{Location, Topology, Event, event, silent}
+use Rattle.model.specs.Schedule.{Step, silentOf, steps, weaveFrom, weave, inOrder}
+use Rattle.model.specs.OneLocation.{Local, possibleAt, nextAt, startAt, still, runsAt}
+use Rattle.model.proofs.Tests.{and-l, and-r}
+use Rattle.model.proofs.Weaving.{inOrder-cons, weave-due, weave-event}
+use Rattle.model.specs.OneLocation.{ownEvent}
+use Rattle.events.specs.Thinning.{noneOwn, Thins, rest, keep, skip, Thinned}
+use Rattle.events.specs.Thinning.{retimed}
+use Rattle.events.proofs.Thinning.{foreign-possible, From, left-out}
+use Rattle.events.proofs.KeptEvents.{thins-places, thins-rise}
+
+-- ---- retiming by any clock
+
+-- The step with another count of events before it.
+abbrev pub timed : (ℕ → ℕ) → Step → Step
+timed clock p = record { before = clock (p .before); location = p .location; machine = p .machine }
+
+-- It is the same silent step.
+pub timed-silent : (clock : ℕ → ℕ) (p : Step) → silentOf (timed clock p) ≡ silentOf p
+unfolding silentOf
+timed-silent clock p = refl
+
+-- Each step has fewer than m events before it.
+abbrev Below : ℕ → List Step → Type 0
+Below m ps = (p : Step) → List·Memᴰ p ps → p .before < m
+
+below-first : {m : ℕ} {p : Step} {ps : List Step} → Below m (p ∷ ps) → p .before < m
+below-first {p} h = h p (List·Memᴰ·head refl)
+
+below-rest : {m : ℕ} {p : Step} {ps : List Step} → Below m (p ∷ ps) → Below m ps
+below-rest h q i = h q (List·Memᴰ·tail i)
+
+-- From k on and below m the clock shows times from l to h, and never falls.
+abbrev Steady : (ℕ → ℕ) → (k m l h : ℕ) → Type 0
+Steady clock k m l h =
+    (i j : ℕ) → k ≤ i → i ≤ j → j < m → (l ≤ clock i) × (clock i ≤ clock j) × (clock j ≤ h)
+
+-- Steps in order are in order by a steady clock.
+timed-inOrder : (clock : ℕ → ℕ) (k n m l h : ℕ) → Steady clock k m l h → (ps : List Step) → Below m ps
+    → T (inOrder k n ps) → T (inOrder l h (map (timed clock) ps))
+unfolding inOrder
+timed-inOrder clock k n m l h steady [] b t = tt
+timed-inOrder clock k n m l h steady (p ∷ ps) b t =
+    let o = inOrder-cons k n p ps .0 t in
+    let low = below-first b in
+    let here = steady (p .before) (p .before) (o .0) (omega arith) low in
+    inOrder-cons l h (timed clock p) (map (timed clock) ps) .1 (
+      here .0,
+      here .2,
+      timed-inOrder clock (p .before) n m (clock (p .before)) h
+          (λ i j g g' f.
+          let first = steady (p .before) i (o .0) g (omega arith) in
+          let then = steady i j (omega arith) g' f in
+          (first .1, then .1, then .2))
+          ps (below-rest b) (o .2),
+    )
+
+-- ---- the clock of the kept events
+
+-- The kept events are those from the k-th to the m-th, and the clock shows the place of each.
+record Shows (clock : ℕ → ℕ) (k m : ℕ) (kept : List Event) (places : List ℕ) : Type 0 where
+  pub all : m ≡ k + length kept
+  pub each : (j : ℕ) → j < length kept → clock (k + j) ≡ getD places j 0
+
+shows-rest : (clock : ℕ → ℕ) (k m : ℕ) {e : Event} {kept : List Event} {n : ℕ} {places : List ℕ}
+    → Shows clock k m (e ∷ kept) (n ∷ places) → Shows clock (suc k) m kept places
+shows-rest clock k m shows =
+    record {
+      all = omega (arith, shows .all);
+      each = λ j l.
+          let same : suc k + j ≡ k + suc j = omega arith in
+          ap clock same ∙ shows .each (suc j) (omega arith);
+    }
+
+shows-first : (clock : ℕ → ℕ) (k m : ℕ) {e : Event} {kept : List Event} {n : ℕ} {places : List ℕ}
+    → Shows clock k m (e ∷ kept) (n ∷ places) → clock k ≡ n
+shows-first clock k m shows =
+    let same : k ≡ k + 0 = omega arith in
+    ap clock same ∙ shows .each 0 (omega arith)
+
+-- The clock is steady.
+shows-steady : (clock : ℕ → ℕ) (k m : ℕ) {x : Location} {begun : Bool} {n : ℕ} {es kept : List Event} {places : List ℕ}
+    → Thins x begun n es kept places → Shows clock k m kept places → Steady clock k m n (n + length es)
+shows-steady clock k m {kept} {places} thins shows i j g g' f =
+    let here = at i g (omega arith) in
+    let there = at j (omega arith) f in
+    let low = thins-places thins (i - k) (omega (arith, shows .all)) in
+    let high = thins-places thins (j - k) (omega (arith, shows .all)) in (
+      omega (arith, here, low),
+      ⊎-elim (λ e. rw e (omega arith)) (rises here there) (eq-or-lt-of-le g'),
+      omega (arith, there, high),
+    )
+  where
+    at : (i : ℕ) → k ≤ i → i < m → clock i ≡ getD places (i - k) 0
+    at i g f =
+        let same : i ≡ k + (i - k) = omega arith in
+        ap clock same ∙ shows .each (i - k) (omega (arith, shows .all))
+
+    rises : clock i ≡ getD places (i - k) 0 → clock j ≡ getD places (j - k) 0 → i < j → clock i ≤ clock j
+    rises here there l =
+        omega (arith, here, there, thins-rise thins (i - k) (j - k) (omega arith) (omega (arith, shows .all)))
+
+-- ---- runs
+
+module _ (sys : Topology) (x : Location) where
+  -- Events of which none names x run at x.
+  none-runs : (n : ℕ) (es : List Event) → T (noneOwn x es) → (s : Local)
+      → runsAt sys x (weaveFrom n es []) s ≡ true
+  unfolding noneOwn runsAt
+  none-runs n [] t s = unfold weaveFrom steps in refl
+  none-runs n (e ∷ es) t s =
+      let here = foreign-possible sys x e s (and-l (not (ownEvent x e)) (noneOwn x es) t) in
+      let more = and-r (not (ownEvent x e)) (noneOwn x es) t in
+      rw (weave-event n 0 e es [] (unfold inOrder in tt), here)
+      (none-runs (suc n) es more (nextAt sys x (event e) s))
+
+  -- An event is passed over, if it is possible and changes nothing and no step is due.
+  idle : (n h : ℕ) (e : Event) (es : List Event) (ps : List Step) (s : Local) → T (inOrder (suc n) h ps)
+      → possibleAt sys x (event e) s ≡ true → nextAt sys x (event e) s ≡ s
+      → runsAt sys x (weaveFrom n (e ∷ es) ps) s ≡ runsAt sys x (weaveFrom (suc n) es ps) s
+  unfolding runsAt
+  idle n h e es ps s t can same = rw (weave-event n h e es ps t, can, same)
+
+  module _ (clock : ℕ → ℕ) (m : ℕ) where
+    -- The retimed steps woven with all events run as the steps woven with the kept ones.
+    abbrev Alike : ℕ → List Event → ℕ → List Event → List Step → Local → Type 0
+    Alike n es k kept ps s =
+        runsAt sys x (weaveFrom n es (map (timed clock) ps)) s ≡ runsAt sys x (weaveFrom k kept ps) s
+
+    -- If that is so of the schedules in order with no step due, it is so of those with some.
+    alike-due : (n : ℕ) (es : List Event) (k : ℕ) (kept : List Event) → clock k ≡ n
+        → ((ps : List Step) → T (inOrder (suc k) m ps) → Below m ps → (s : Local) → Alike n es k kept ps s)
+        → (ps : List Step) → T (inOrder k m ps) → Below m ps → (s : Local) → Alike n es k kept ps s
+    unfolding inOrder runsAt
+    alike-due n es k kept now alike [] t b s = alike [] tt b s
+    alike-due n es k kept now alike (p ∷ ps) t b s =
+        let o = inOrder-cons k m p ps .0 t in
+        ⊎-elim
+        (λ e. first e (alike-due n es k kept now alike ps (rw (← e) at (o .2)) (below-rest b)))
+        (λ l. alike (p ∷ ps) (inOrder-cons (suc k) m p ps .1 (l, o .1, o .2)) b s)
+        (eq-or-lt-of-le (o .0))
+      where
+        first : k ≡ p .before → ((s : Local) → Alike n es k kept ps s) → Alike n es k kept (p ∷ ps) s
+        first e more =
+            let a = silent (silentOf p) in
+            let due : clock (p .before) ≤ n = omega (arith, ap clock e, now) in
+            let woven = weave-due n es (timed clock p) (map (timed clock) ps) due in
+            rw (woven, weave-due k kept p ps (omega arith), timed-silent clock p)
+            (ap (_&&_ (possibleAt sys x a s)) (more (nextAt sys x a s)))
+
+    -- That is so of the kept events.
+    thins-alike : {begun : Bool} {n : ℕ} {es kept : List Event} {places : List ℕ} → Thins x begun n es kept places
+        → (k : ℕ) → Shows clock k m kept places
+        → (ps : List Step) → T (inOrder k m ps) → Below m ps → (s : Local) → From sys x begun s
+        → Alike n es k kept ps s
+    unfolding runsAt
+    thins-alike {n} (rest {es} none) k shows [] t b s from =
+        none-runs n es none s ∙ unfold weaveFrom steps in refl
+    thins-alike (rest none) k shows (p ∷ ps) t b s from =
+        let o = inOrder-cons k m p ps .0 t in
+        absurd (omega (arith, o .0, below-first b, shows .all))
+    thins-alike {n} (keep {e} {es} {kept} {places} h) k shows ps t b s from =
+        let later = shows-rest clock k m shows in
+        alike-due n (e ∷ es) k (e ∷ kept) (shows-first clock k m shows)
+        (λ qs u c s.
+        let order = timed-inOrder clock (suc k) m m (suc n) (suc n + length es)
+        (shows-steady clock (suc k) m h later) qs c u in
+        let more = thins-alike h (suc k) later qs u c (nextAt sys x (event e) s) tt in
+        rw (weave-event n (suc n + length es) e es (map (timed clock) qs) order, weave-event k m e kept qs u)
+        (ap (_&&_ (possibleAt sys x (event e) s)) more))
+        ps t b s
+    thins-alike {n} (skip {begun} {e} {es} none h) k shows ps t b s from =
+        let order = timed-inOrder clock k m m (suc n) (suc n + length es)
+        (shows-steady clock k m h shows) ps b t in
+        let (here, can, same) = left-out sys x begun e none from still in
+        idle n (suc n + length es) e es (map (timed clock) ps) s order can same
+        ∙ thins-alike h k shows ps t b s from
+
+-- ---- schedules
+
+-- The clock that shows the places.
+abbrev pub placeOf : List ℕ → ℕ → ℕ
+placeOf places i = getD places i 0
+
+module _ {x : Location} {es kept : List Event} {places : List ℕ} (thinned : Thinned x es kept places) where
+  shows-places : Shows (placeOf places) 0 (length kept) kept places
+  shows-places =
+      record {
+        all = omega arith;
+        each = λ j l. let same : 0 + j ≡ j = omega arith in ap (placeOf places) same;
+      }
+
+  -- The retimed steps are in order.
+  pub thinned-inOrder : {ps : List Step} → ((p : Step) → List·Memᴰ p ps → p .before < length kept)
+      → T (inOrder 0 (length kept) ps) → T (inOrder 0 (length es) (retimed places ps))
+  unfolding retimed
+  thinned-inOrder {ps} b t =
+      let all : 0 + length es ≡ length es = omega arith in
+      rw all at
+      (timed-inOrder (placeOf places) 0 (length kept) (length kept) 0 (0 + length es)
+      (shows-steady (placeOf places) 0 (length kept) thinned shows-places) ps b t)
+
+  -- Woven with all events they run at x as the steps do, woven with the kept ones.
+  pub thinned-weave : (sys : Topology) {ps : List Step}
+      → ((p : Step) → List·Memᴰ p ps → p .before < length kept)
+      → T (inOrder 0 (length kept) ps)
+      → runsAt sys x (weave es (retimed places ps)) (startAt sys x)
+      ≡ runsAt sys x (weave kept ps) (startAt sys x)
+  unfolding weave retimed
+  thinned-weave sys {ps} b t =
+      thins-alike sys x (placeOf places) (length kept) thinned 0 shows-places ps t b (startAt sys x) refl
+
+-- Each retimed step is one of the steps, with its place.
+pub retimed-member : (places : List ℕ) (ps : List Step) (p : Step) → List·Memᴰ p (retimed places ps)
+    → (q : Step) × List·Memᴰ q ps × (timed (placeOf places) q ≡ p)
+unfolding retimed
+retimed-member places ps p i = Memᴰ·of-map (timed (placeOf places)) ps i

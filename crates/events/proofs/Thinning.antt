@@ -1,0 +1,149 @@
+-- The events that matter at a location have a run there exactly if all events have one.
+use Prim.Native.Nat.{ℕ}
+use native.Mathlib.Omega.{arith}
+use mathlib.Core.Path.{_≡_, refl, ap, _∙_, subst, sym}
+use mathlib.Core.Logic.{⊎-elim, _↔_}
+use mathlib.Core.Bool.{Bool, true, false, cond, not, _&&_}
+use mathlib.Core.List.{List, [], _∷_}
+use lib.Dec.{T, eqb}
+use Rattle.model.specs.Cxl0.{Machine, Location, Value, Topology, owner, initial}
+use Rattle.model.specs.Cxl0.{Event, Crash}
+use Rattle.model.specs.Cxl0.{Propagate, WriteBack, event}
+use Rattle.model.specs.Sharers.{has, remove}
+use Rattle.model.specs.OneLocation.{Local, locationOf, siteOf, clearsSite, eventAt, silentAt, concerns, enabledAt}
+use Rattle.model.specs.OneLocation.{effect, possibleAt, nextAt}
+use Rattle.model.specs.OneLocation.{startAt, HasRunAt, Silently, still, step}
+use Rattle.model.proofs.Tests.{true→T, not→false, and-l, and-r}
+use Rattle.model.proofs.Sharers.{remove-le}
+use Rattle.model.proofs.Locations.{located, foreign-elsewhere}
+use Rattle.model.proofs.SilentSteps.{has→some}
+use Rattle.model.proofs.Gaps.{has-run-nil, after-gap, has-run-cons}
+use Rattle.model.specs.OneLocation.{ownEvent}
+use Rattle.events.specs.Thinning.{noneOwn, matters, Thins, rest, keep, skip, Thinned}
+
+-- ---- events elsewhere
+
+module _ (sys : Topology) (x : Location) where
+  -- An event that does not concern x leaves x as it is.
+  elsewhere-next : (e : Event) (s : Local) → T (not (eventAt x e)) → nextAt sys x (event e) s ≡ s
+  unfolding nextAt concerns
+  elsewhere-next e s t = rw (not→false {b = eventAt x e} t)
+
+  -- It is possible at x.
+  elsewhere-possible : (e : Event) (s : Local) → T (not (eventAt x e))
+      → possibleAt sys x (event e) s ≡ true
+  unfolding possibleAt concerns
+  elsewhere-possible e s t = rw (not→false {b = eventAt x e} t)
+
+  -- So is every event that does not name x, crashes too.
+  pub foreign-possible : (e : Event) (s : Local) → T (not (ownEvent x e))
+      → possibleAt sys x (event e) s ≡ true
+  unfolding possibleAt concerns enabledAt eventAt locationOf
+  foreign-possible e s t =
+      ⊎-elim
+      (λ at. elsewhere-possible e s (foreign-elsewhere x e (at .1) t))
+      (λ crash. rw (crash .1) refl)
+      (located e)
+
+  cond-same : (b : Bool) (v : Value) → cond b v v ≡ v
+  cond-same true v = refl
+  cond-same false v = refl
+
+  -- A crash leaves the start as it is.
+  start-crash : (i : Machine) → effect (siteOf sys x) (event (Crash i)) (startAt sys x) ≡ startAt sys x
+  unfolding effect siteOf startAt
+  start-crash i =
+      let none : remove i 0 ≡ 0 = omega (arith, remove-le i 0) in
+      let same = cond-same (clearsSite (Crash i) (siteOf sys x)) (initial sys x) in
+      λ j. record { code = none j; copy = 0; memory = same j }
+
+  -- At the start an event that does not name x leaves x as it is.
+  foreign-next : (e : Event) → T (not (ownEvent x e))
+      → nextAt sys x (event e) (startAt sys x) ≡ startAt sys x
+  unfolding nextAt concerns eventAt locationOf
+  foreign-next e t =
+      ⊎-elim
+      (λ at. elsewhere-next e (startAt sys x) (foreign-elsewhere x e (at .1) t))
+      (λ crash. rw (crash .1) (start-crash (crash .0)))
+      (located e)
+
+  -- ---- silent steps
+
+  -- Where no machine holds a copy, x has no silent step.
+  quiet : {s t : Local} → Silently sys x s t → s .code ≡ 0 → t ≡ s
+  unfolding enabledAt siteOf
+  quiet still z = refl
+  quiet (step {s} (Propagate i y) p r) z =
+      let other : Bool = not (eqb i (owner sys x)) in
+      let q = and-r (silentAt x (Propagate i y)) (other && has i (s .code)) p in
+      absurd (has→some i (s .code) (and-r other (has i (s .code)) q) z)
+  quiet (step {s} (WriteBack y) p r) z =
+      let k = owner sys x in
+      absurd (has→some k (s .code) (and-r (silentAt x (WriteBack y)) (has k (s .code)) p) z)
+
+  -- ---- runs
+
+  -- Events of which none names x have a run at x from everywhere.
+  none-run : (es : List Event) → T (noneOwn x es) → (s : Local) → HasRunAt sys x es s
+  unfolding noneOwn
+  none-run [] t s = has-run-nil sys x s
+  none-run (e ∷ es) t s =
+      let here = and-l (not (ownEvent x e)) (noneOwn x es) t in
+      let more = none-run es (and-r (not (ownEvent x e)) (noneOwn x es) t) (nextAt sys x (event e) s) in
+      has-run-cons sys x e es s .1 (s, still, true→T (foreign-possible e s here), more)
+
+  -- One event more that is possible at s and leaves s as it is.
+  more-run : (e : Event) (es : List Event) (s : Local) → possibleAt sys x (event e) s ≡ true
+      → nextAt sys x (event e) s ≡ s → HasRunAt sys x es s → HasRunAt sys x (e ∷ es) s
+  more-run e es s can same r =
+      has-run-cons sys x e es s .1 (s, still, true→T can, subst (HasRunAt sys x es) (sym same) r)
+
+  -- A gap before a run makes a run of the same events.
+  gap-run : {s t : Local} (es : List Event) → Silently sys x s t → HasRunAt sys x es t → HasRunAt sys x es s
+  gap-run es g r = let m = after-gap sys x g (r .0) (r .2) (r .3) in (m .0, m .1 ∙ r .1, m .2, m .3)
+
+  -- ---- events that need not be kept
+
+  -- Where events may be left out: everywhere once one was kept, and at the start before.
+  abbrev pub From : (begun : Bool) → Local → Type 0
+  From true s = Unit {0}
+  From false s = s ≡ startAt sys x
+
+  -- After silent steps, if any, an event that need not be kept is possible and leaves x as it is.
+  pub left-out : (begun : Bool) (e : Event) → T (not (matters begun x e)) → {s t : Local} → From begun s
+      → Silently sys x s t
+      → From begun t × (possibleAt sys x (event e) t ≡ true) × (nextAt sys x (event e) t ≡ t)
+  left-out true e none {t = t} from gap = (tt, elsewhere-possible e t none, elsewhere-next e t none)
+  left-out false e none from gap =
+      let here = quiet gap (ap (λ (l : Local). l .code) from ∙ unfold startAt in refl) ∙ from in
+      (here, foreign-possible e _ none, rw here (foreign-next e none))
+
+-- All events have a run at x exactly if those kept have one.
+thins-run : (sys : Topology) {x : Location} {begun : Bool} {n : ℕ} {es kept : List Event} {places : List ℕ}
+    → Thins x begun n es kept places → (s : Local) → From sys x begun s
+    → HasRunAt sys x es s ↔ HasRunAt sys x kept s
+thins-run sys {x} (rest {es} t) s from = (λ r. has-run-nil sys x s, λ r. none-run sys x es t s)
+thins-run sys {x} (keep {e} {es} {kept} h) s from = (
+  λ r.
+      let f = has-run-cons sys x e es s .0 r in
+      let more = thins-run sys h (nextAt sys x (event e) (f .0)) tt .0 (f .3) in
+      has-run-cons sys x e kept s .1 (f .0, f .1, f .2, more),
+  λ r.
+      let f = has-run-cons sys x e kept s .0 r in
+      let more = thins-run sys h (nextAt sys x (event e) (f .0)) tt .1 (f .3) in
+      has-run-cons sys x e es s .1 (f .0, f .1, f .2, more),
+)
+thins-run sys {x} (skip {begun} {e} {es} {kept} t h) s from = (
+  λ r.
+      let f = has-run-cons sys x e es s .0 r in
+      let (there, can, same) = left-out sys x begun e t from (f .1) in
+      gap-run sys x kept (f .1) (thins-run sys h (f .0) there .0 (subst (HasRunAt sys x es) same (f .3))),
+  λ r.
+      let (here, can, same) = left-out sys x begun e t from still in
+      more-run sys x e es s can same (thins-run sys h s from .1 r),
+)
+
+-- From the start all events have a run exactly if those kept of them have one.
+pub thinned-run : (sys : Topology) {x : Location} {es kept : List Event} {places : List ℕ}
+    → Thinned x es kept places → HasRunAt sys x es (startAt sys x) ↔ HasRunAt sys x kept (startAt sys x)
+thinned-run sys {x} thinned = thins-run sys thinned (startAt sys x) refl

@@ -1,0 +1,8 @@
+pub mod Described
+pub mod KnownEvents
+pub mod Gathering
+pub mod RetimedSchedules
+pub mod Extending
+pub mod Visits
+pub mod AllVisits
+pub mod Concluding

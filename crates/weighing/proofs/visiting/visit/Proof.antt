@@ -1,0 +1,99 @@
+-- `visit` searches one location more.
+use native.Mathlib.Omega.{arith}
+use mathlib.Core.Path.{_≡_, ap}
+use borrow.Author.Needs.{needs}
+use Rattle.model.specs.declared.Location.{Location}
+use Rattle.model.specs.Meaning.{topologyOf}
+use Rattle.rows.specs.Sites.{Describes}
+use Rattle.weighing.proofs.Described.{described}
+use Rattle.weighing.proofs.Visits.{pick-can, pick-low, visit-explainable, visit-none, visit-ends}
+use Rattle.weighing.proofs.Visits.{visit-same, visit-retimable, visit-extends}
+use Rattle.weighing.proofs.visiting.visit.Statement.{statement}
+use Rattle.weighing.proofs.visiting.visit.Tie as tie
+
+-- The beginning; the events picked; the site, which is that of x; the events explained.
+abbrev start : tie.After-pick-events → tie.Start
+start c = c .before .before .before
+
+abbrev picks : tie.After-of → tie.After-pick-events
+picks c = c .before .before .before .before
+
+here : (c : tie.After-of) → c .of .result .location .0 ≡ start (picks c) .args .x .0
+here c = ap (λ (l : Location). l .0) (c .of .ensures .1)
+
+describes : (c : tie.After-of) → Describes (topologyOf (start (picks c) .args .t)) (c .of .result)
+describes c =
+    let begun = start (picks c) in
+    let can = begun .pre in
+    described (begun .args .t) (here c) (can .weighable .limits) (can .listed) (c .of .ensures .0)
+
+abbrev explains : tie.After-struct-known → tie.After-explain
+explains c = c .before .before .before
+
+pick-events-requires : tie.Need-pick-events-requires
+pick-events-requires c κs = let s = c .before .before in (pick-can (s .pre), pick-low (s .pre))
+
+returns : tie.Need-returns
+returns c = let k = c .before .before .before in visit-none (start k .pre) (k .pick-events .ensures) (c .if1 .taken)
+
+explain-requires : tie.Need-explain-requires
+explain-requires c κs =
+    let s = c .before in
+    let k = picks s in
+    visit-explainable (start k .pre) (k .pick-events .ensures) (here s) (describes s)
+
+returns-2 : tie.Need-returns-2
+returns-2 c =
+    let h = c .before .before in
+    let f = explains (h .before) in
+    let s = f .before .before in
+    let k = picks s in
+    visit-ends (start k .pre) (k .pick-events .ensures) (here s) (describes s) (f .explain .ensures)
+    (h .if2 .taken) _ (c .place .ensures)
+
+returns-3 : tie.Need-returns-3
+returns-3 c =
+    let h = c .before .before in
+    let f = explains (h .before) in
+    let s = f .before .before in
+    let k = picks s in
+    visit-same (start k .pre) (k .pick-events .ensures) (here s) (describes s) (f .explain .ensures)
+    (omega (arith, f .explain .ensures .most, h .if2 .left)) (c .if3 .taken)
+
+retime-requires : tie.Need-retime-requires
+retime-requires c κs =
+    let h = c .before .before .before in
+    let f = explains (h .before) in
+    let s = f .before .before in
+    let k = picks s in
+    visit-retimable (start k .pre) (k .pick-events .ensures) (here s) (describes s) (f .explain .ensures)
+    (omega (arith, f .explain .ensures .most, h .if2 .left)) (c .before .if3 .left)
+
+returns-4 : tie.Need-returns-4
+returns-4 c =
+    let r = c .before .before in
+    let e = r .before .before in
+    let h = e .before .before in
+    let f = explains (h .before) in
+    let s = f .before .before in
+    let k = picks s in
+    visit-extends (start k .pre) (k .pick-events .ensures) (here s) (describes s) (f .explain .ensures)
+    (omega (arith, f .explain .ensures .most, h .if2 .left)) (e .if3 .left) (r .retime .ensures)
+
+pub visit-spec : {M : Type 1} → statement M
+visit-spec =
+    tie.close
+    (tie.spec
+    pick-events-requires
+    (λ c. search needs)
+    returns
+    (λ c κs. search needs)
+    explain-requires
+    (λ c κs. search needs)
+    (λ c. search needs)
+    returns-2
+    (λ c. search needs)
+    returns-3
+    retime-requires
+    (λ c. search needs)
+    returns-4)
