@@ -15,22 +15,22 @@ use Rattle.scratch.specs.Words.{eventIn, eventsFrom, eventsIn}
 use Rattle.scratch.proofs.Frames.{getD-below, getD-above, only-wider}
 use Rattle.scratch.proofs.Access.{two-read, two-only}
 use Rattle.scratch.proofs.Events.{events-suc}
-use Rattle.events.specs.Linking.{headOf, operationIn, placeIn, placesFrom, placesIn, Linked}
+use Rattle.events.specs.Linking.{headOf, operationIn, indexIn, indicesFrom, indicesIn, Linked}
 use Rattle.events.specs.Picking.{copied}
-use Rattle.events.proofs.Places.{atPlace}
+use Rattle.events.proofs.Indices.{atIndex}
 use Rattle.events.proofs.LogWords.{wordOf, valueOf, log-event, log-event-same, events-at, events-are}
 
-last-place : (w : List ℕ) (j t : ℕ)
-    → placesFrom w j (suc t) ≡ placesFrom w j t ++ placeIn EVENTS w (j + t) ∷ []
-unfolding placesFrom
-last-place w j zero = rw add-zero
-last-place w j (suc t) =
+last-index : (w : List ℕ) (j t : ℕ)
+    → indicesFrom w j (suc t) ≡ indicesFrom w j t ++ indexIn EVENTS w (j + t) ∷ []
+unfolding indicesFrom
+last-index w j zero = rw add-zero
+last-index w j (suc t) =
     let next : suc j + t ≡ j + suc t = omega arith in
-    rw (← next) (ap (_∷_ (placeIn EVENTS w j)) (last-place w (suc j) t))
+    rw (← next) (ap (_∷_ (indexIn EVENTS w j)) (last-index w (suc j) t))
 
--- One place more at the end.
-places-suc : (w : List ℕ) (t : ℕ) → placesIn w (suc t) ≡ placesIn w t ++ placeIn EVENTS w t ∷ []
-places-suc w t = rw (zero-add t) at (last-place w 0 t)
+-- One index more at the end.
+indices-suc : (w : List ℕ) (t : ℕ) → indicesIn w (suc t) ≡ indicesIn w t ++ indexIn EVENTS w t ∷ []
+indices-suc w t = rw (zero-add t) at (last-index w 0 t)
 
 module _ (w : List ℕ) (j k : ℕ) (room : WORDS ≤ length w) (low : k < MOST) where
   first-read : getD (copied j k w) (EVENTS + 2 * k) 0 ≡ wordOf w j
@@ -54,25 +54,25 @@ module _ (w : List ℕ) (j k : ℕ) (room : WORDS ≤ length w) (low : k < MOST)
       let second = getD-below narrow (EVENTS + 2 * i + 1) (omega arith) in
       rw (first, second, kept-events (suc i) n (omega arith))
 
-  kept-places : (i n : ℕ) → i + n ≤ k → placesFrom (copied j k w) i n ≡ placesFrom w i n
-  unfolding placesFrom
-  kept-places i zero h = refl
-  kept-places i (suc n) h =
+  kept-indices : (i n : ℕ) → i + n ≤ k → indicesFrom (copied j k w) i n ≡ indicesFrom w i n
+  unfolding indicesFrom
+  kept-indices i zero h = refl
+  kept-indices i (suc n) h =
       let first = getD-below narrow (EVENTS + 2 * i) (omega arith) in
-      rw (first, kept-places (suc i) n (omega arith))
+      rw (first, kept-indices (suc i) n (omega arith))
 
   last-copied : eventIn (copied j k w) k ≡ eventIn (drop LOG w) j
   unfolding eventIn
   last-copied = rw (first-read, second-read) (sym (log-event w j))
 
-  -- The copied event comes after the first k events, and its place after their places.
+  -- The copied event comes after the first k events, and its index after their indices.
   pub copied-events : eventsIn (copied j k w) (k + 1) ≡ eventsIn w k ++ eventIn (drop LOG w) j ∷ []
   copied-events =
       rw (add-one k, events-suc (copied j k w) k, kept-events 0 k (omega arith), last-copied)
 
-  pub copied-places : placesIn (copied j k w) (k + 1) ≡ placesIn w k ++ placeIn LOG w j ∷ []
-  copied-places =
-      rw (add-one k, places-suc (copied j k w) k, kept-places 0 k (omega arith), first-read)
+  pub copied-indices : indicesIn (copied j k w) (k + 1) ≡ indicesIn w k ++ indexIn LOG w j ∷ []
+  copied-indices =
+      rw (add-one k, indices-suc (copied j k w) k, kept-indices 0 k (omega arith), first-read)
 
   -- With an operation of the log, the copied event has one of the seven, as those before it have.
   pub copied-operations : T (isOperation (operationIn LOG w j))
@@ -84,11 +84,11 @@ module _ (w : List ℕ) (j k : ℕ) (room : WORDS ≤ length w) (low : k < MOST)
       (λ t. let below : i < k = omega (arith, ne-test i k t) in
       rw (getD-below narrow (EVENTS + 2 * i) (omega arith)) (others i below))
 
--- The event at a place of the log.
+-- The event at an index of the log.
 pub linked-event : {es : List Event} {w : List ℕ} → Linked es w → (i : ℕ) → i < length es
-    → eventIn (drop LOG w) i ≡ atPlace es i
+    → eventIn (drop LOG w) i ≡ atIndex es i
 linked-event {es} {w} linked i h =
-    sym (events-at (drop LOG w) (length es) i h) ∙ ap (λ (l : List Event). atPlace l i) (linked .events)
+    sym (events-at (drop LOG w) (length es) i h) ∙ ap (λ (l : List Event). atIndex l i) (linked .events)
 
 -- A change of the search's events leaves the log with its links.
 pub linked-same : {es : List Event} {w w' : List ℕ} → OnlyIn EVENTS ROWS w w' → Linked es w → Linked es w'
@@ -102,7 +102,7 @@ linked-same {es} {w} {w'} only linked =
       events = events-are (drop LOG w') es
           (λ i h. log-event-same w w' i (first i) (second i) ∙ linked-event linked i h);
       operations = λ j h. rw (first j) (linked .operations j h);
-      places = λ j h. rw (first j) (linked .places j h);
+      indices = λ j h. rw (first j) (linked .indices j h);
       owns = λ x j h o. rw (first j) (linked .owns x j h o);
       crashes = λ j h. rw (first j) (linked .crashes j h);
       heads = λ x h. getD-above only (headOf x) (omega arith) ∙ linked .heads x h;

@@ -1,4 +1,4 @@
--- The events kept for a location and their places: what the first of them are kept of, that the places
+-- The events kept for a location and their indices: what the first of them are kept of, that the indices
 -- rise, and that the kept events allow for no more steps and name no more than all events.
 use Prim.Native.Nat.{ℕ, zero, suc, _+_, _≤_, _<_}
 use native.Mathlib.Nat.{not-suc-le-zero, le-of-suc-le-suc, zero-add}
@@ -19,15 +19,15 @@ use Rattle.events.specs.Thinning.{noneOwn, Thins, rest, keep, skip, Thin
 
 -- The first d kept events are those kept of the first j events, and one more is kept of one more.
 abbrev Cut : Location → Bool → ℕ → List Event → List Event → List ℕ → ℕ → Type 0
-Cut x begun n es kept places d =
+Cut x begun n es kept indices d =
     (j : ℕ)
-    × (getD places d 0 ≡ n + j)
+    × (getD indices d 0 ≡ n + j)
     × (j < length es)
-    × Thins x begun n (take j es) (take d kept) (take d places)
-    × Thins x begun n (take (suc j) es) (take (suc d) kept) (take (suc d) places)
+    × Thins x begun n (take j es) (take d kept) (take d indices)
+    × Thins x begun n (take (suc j) es) (take (suc d) kept) (take (suc d) indices)
 
-thins-cut : {x : Location} {begun : Bool} {n : ℕ} {es kept : List Event} {places : List ℕ}
-    → Thins x begun n es kept places → (d : ℕ) → d < length kept → Cut x begun n es kept places d
+thins-cut : {x : Location} {begun : Bool} {n : ℕ} {es kept : List Event} {indices : List ℕ}
+    → Thins x begun n es kept indices → (d : ℕ) → d < length kept → Cut x begun n es kept indices d
 unfolding noneOwn
 thins-cut (rest t) d l = absurd (not-suc-le-zero l)
 thins-cut (keep h) zero l = (0, omega arith, omega arith, rest tt, keep (rest tt))
@@ -38,41 +38,41 @@ thins-cut (skip t h) d l =
     let c = thins-cut h d l in
     (suc (c .0), omega (arith, c .1), omega (arith, c .2), skip t (c .3), skip t (c .4))
 
--- Let m be the place of kept event d. The first d kept events are those kept of the first m events, and one
+-- Let m be the index of kept event d. The first d kept events are those kept of the first m events, and one
 -- more is kept of one more.
-pub thinned-take : {x : Location} {es kept : List Event} {places : List ℕ} → Thinned x es kept places
+pub thinned-take : {x : Location} {es kept : List Event} {indices : List ℕ} → Thinned x es kept indices
     → (d : ℕ) → d < length kept
-    → let m = getD places d 0 in
+    → let m = getD indices d 0 in
     (m < length es)
-    × Thinned x (take m es) (take d kept) (take d places)
-    × Thinned x (take (suc m) es) (take (suc d) kept) (take (suc d) places)
+    × Thinned x (take m es) (take d kept) (take d indices)
+    × Thinned x (take (suc m) es) (take (suc d) kept) (take (suc d) indices)
 thinned-take h d l =
     let c = thins-cut h d l in
     rw (c .1, zero-add (c .0)) (c .2, c .3, c .4)
 
--- ---- the places
+-- ---- the indices
 
--- The places of the kept events are places of the events.
-pub thins-places : {x : Location} {begun : Bool} {n : ℕ} {es kept : List Event} {places : List ℕ}
-    → Thins x begun n es kept places
-    → (d : ℕ) → d < length kept → (n ≤ getD places d 0) × (getD places d 0 < n + length es)
-thins-places h d l = let c = thins-cut h d l in (omega (arith, c .1), omega (arith, c .1, c .2))
+-- The indices of the kept events are indices of the events.
+pub thins-indices : {x : Location} {begun : Bool} {n : ℕ} {es kept : List Event} {indices : List ℕ}
+    → Thins x begun n es kept indices
+    → (d : ℕ) → d < length kept → (n ≤ getD indices d 0) × (getD indices d 0 < n + length es)
+thins-indices h d l = let c = thins-cut h d l in (omega (arith, c .1), omega (arith, c .1, c .2))
 
--- The places rise.
-pub thins-rise : {x : Location} {begun : Bool} {n : ℕ} {es kept : List Event} {places : List ℕ}
-    → Thins x begun n es kept places
-    → (c d : ℕ) → c < d → d < length kept → getD places c 0 < getD places d 0
+-- The indices rise.
+pub thins-rise : {x : Location} {begun : Bool} {n : ℕ} {es kept : List Event} {indices : List ℕ}
+    → Thins x begun n es kept indices
+    → (c d : ℕ) → c < d → d < length kept → getD indices c 0 < getD indices d 0
 thins-rise (rest t) c d g l = absurd (not-suc-le-zero l)
 thins-rise (keep h) c zero g l = absurd (not-suc-le-zero g)
-thins-rise (keep h) zero (suc d) g l = omega (arith, thins-places h d (le-of-suc-le-suc l))
+thins-rise (keep h) zero (suc d) g l = omega (arith, thins-indices h d (le-of-suc-le-suc l))
 thins-rise (keep h) (suc c) (suc d) g l = thins-rise h c d (le-of-suc-le-suc g) (le-of-suc-le-suc l)
 thins-rise (skip t h) c d g l = thins-rise h c d g l
 
 -- ---- what is allowed for
 
 -- The kept events allow for no more steps than all events do.
-pub thins-allowance : {x : Location} {begun : Bool} {n : ℕ} {es kept : List Event} {places : List ℕ}
-    → Thins x begun n es kept places → allowance x kept ≤ allowance x es
+pub thins-allowance : {x : Location} {begun : Bool} {n : ℕ} {es kept : List Event} {indices : List ℕ}
+    → Thins x begun n es kept indices → allowance x kept ≤ allowance x es
 thins-allowance {x} (rest {es} t) =
     let none : allowance x [] ≡ 0 = unfold allowance count in refl in
     omega arith
@@ -84,8 +84,8 @@ thins-allowance {x} (skip {e} {es} t h) = omega (arith, allowance-cons x e es, t
 
 module _ (sys : Topology) where
   -- The kept events name machines and locations of the system if all do.
-  pub thins-named : {x : Location} {begun : Bool} {n : ℕ} {es kept : List Event} {places : List ℕ}
-      → Thins x begun n es kept places → T (allNamed sys (map event es)) → T (allNamed sys (map event kept))
+  pub thins-named : {x : Location} {begun : Bool} {n : ℕ} {es kept : List Event} {indices : List ℕ}
+      → Thins x begun n es kept indices → T (allNamed sys (map event es)) → T (allNamed sys (map event kept))
   unfolding allNamed
   thins-named (rest t) a = tt
   thins-named (keep {e} {es} {kept} h) a =

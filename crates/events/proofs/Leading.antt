@@ -1,4 +1,4 @@
--- Which events matter at a location: from facts about the event at each place to what is kept of a list.
+-- Which events matter at a location: from facts about the event at each index to what is kept of a list.
 use Prim.Native.Nat.{ℕ, zero, suc, _+_, _-_, _≤_, _<_}
 use native.Mathlib.Nat.{add-zero}
 use native.Mathlib.Omega.{arith}
@@ -9,37 +9,36 @@ use lib.Dec.{T}
 use lib.ListN.{length, drop, drop-of-length-le}
 use lib.Seq.{drop-cons}
 use Rattle.model.specs.Cxl0.{Location, Event, Crash}
-use Rattle.model.specs.OneLocation.{eventAt}
 use Rattle.model.proofs.Tests.{and-i}
-use Rattle.model.specs.OneLocation.{ownEvent, isCrash}
+use Rattle.model.specs.OneLocation.{ownEvent}
 use Rattle.events.specs.Thinning.{noneOwn, matters, Thins, keep, skip}
-use Rattle.events.proofs.Places.{atPlace}
+use Rattle.events.proofs.Indices.{atIndex}
 
 module _ (x : Location) (es : List Event) where
   none-from : (d p : ℕ) → p + d ≡ length es
-      → ((i : ℕ) → p ≤ i → i < length es → T (not (ownEvent x (atPlace es i)))) → T (noneOwn x (drop p es))
+      → ((i : ℕ) → p ≤ i → i < length es → T (not (ownEvent x (atIndex es i)))) → T (noneOwn x (drop p es))
   unfolding noneOwn
   none-from zero p e f = rw (drop-of-length-le es {i = p} (omega arith)) tt
   none-from (suc d) p e f =
       rw (drop-cons es p (Crash 0) (omega arith))
-      (and-i (not (ownEvent x (atPlace es p))) (noneOwn x (drop (suc p) es))
+      (and-i (not (ownEvent x (atIndex es p))) (noneOwn x (drop (suc p) es))
       (f p (omega arith) (omega arith))
       (none-from d (suc p) (omega arith) (λ i l h. f i (omega arith) h)))
 
   -- No event from p on names x.
   pub none-own : (p : ℕ) → p ≤ length es
-      → ((i : ℕ) → p ≤ i → i < length es → T (not (ownEvent x (atPlace es i)))) → T (noneOwn x (drop p es))
+      → ((i : ℕ) → p ≤ i → i < length es → T (not (ownEvent x (atIndex es i)))) → T (noneOwn x (drop p es))
   none-own p h f = none-from (length es - p) p (omega arith) f
 
-  module _ {begun : Bool} {kept : List Event} {places : List ℕ} where
+  module _ {begun : Bool} {kept : List Event} {indices : List ℕ} where
     -- The event at p is kept.
-    pub keep-at : (p : ℕ) → p < length es → Thins x true (suc p) (drop (suc p) es) kept places
-        → Thins x begun p (drop p es) (atPlace es p ∷ kept) (p ∷ places)
+    pub keep-at : (p : ℕ) → p < length es → Thins x true (suc p) (drop (suc p) es) kept indices
+        → Thins x begun p (drop p es) (atIndex es p ∷ kept) (p ∷ indices)
     keep-at p h t = rw (drop-cons es p (Crash 0) h) (keep t)
 
     skips : (d p : ℕ) → p + d ≤ length es
-        → ((i : ℕ) → p ≤ i → i < p + d → T (not (matters begun x (atPlace es i))))
-        → Thins x begun (p + d) (drop (p + d) es) kept places → Thins x begun p (drop p es) kept places
+        → ((i : ℕ) → p ≤ i → i < p + d → T (not (matters begun x (atIndex es i))))
+        → Thins x begun (p + d) (drop (p + d) es) kept indices → Thins x begun p (drop p es) kept indices
     skips zero p h f t = rw add-zero at t
     skips (suc d) p h f t =
         let sum : p + suc d ≡ suc p + d = omega arith in
@@ -48,8 +47,8 @@ module _ (x : Location) (es : List Event) where
 
     -- The events from p to q, which need not be kept, are left out.
     pub skip-to : (p q : ℕ) → p ≤ q → q ≤ length es
-        → ((i : ℕ) → p ≤ i → i < q → T (not (matters begun x (atPlace es i))))
-        → Thins x begun q (drop q es) kept places → Thins x begun p (drop p es) kept places
+        → ((i : ℕ) → p ≤ i → i < q → T (not (matters begun x (atIndex es i))))
+        → Thins x begun q (drop q es) kept indices → Thins x begun p (drop p es) kept indices
     skip-to p q l h f t =
         let sum : p + (q - p) ≡ q = omega arith in
         skips (q - p) p (omega arith) (λ i a b. f i a (omega arith)) (rw sum t)

@@ -1,5 +1,5 @@
 pub mod Retimings
-pub mod Places
+pub mod Indices
 pub mod NamedLocations
 pub mod Leading
 pub mod Thinning

@@ -18,13 +18,13 @@ use Rattle.scratch.specs.Words.{eventsFrom, eventsIn}
 use Rattle.events.specs.declared.picking.Pick.{Pick}
 use Rattle.model.specs.OneLocation.{ownEvent, isCrash}
 use Rattle.events.specs.Thinning.{Thins, rest, Thinned}
-use Rattle.events.specs.Linking.{headOf, operationIn, nextOwnIn, nextCrashIn, placesFrom, placesIn}
+use Rattle.events.specs.Linking.{headOf, operationIn, nextOwnIn, nextCrashIn, indicesFrom, indicesIn}
 use Rattle.events.specs.Linking.{firstFrom, Linked}
 use Rattle.events.specs.Picking.{copied, nearer, pickFrom, pickAfter}
-use Rattle.events.proofs.Places.{atPlace, First, first-of, first-next, first-later}
+use Rattle.events.proofs.Indices.{atIndex, First, first-of, first-next, first-later}
 use Rattle.model.proofs.Locations.{own-no-crash, unconcerned}
 use Rattle.events.proofs.Leading.{none-own, keep-at, skip-to}
-use Rattle.events.proofs.Copies.{copied-frame, copied-events, copied-places, copied-operations}
+use Rattle.events.proofs.Copies.{copied-frame, copied-events, copied-indices, copied-operations}
 use Rattle.events.proofs.Copies.{linked-event, linked-same}
 
 module _ (es : List Event) (m : ℕ) (few : length es ≤ MOST) (within : m ≤ length es) where
@@ -33,12 +33,12 @@ module _ (es : List Event) (m : ℕ) (few : length es ≤ MOST) (within : m ≤ 
 
   -- Before the first event that passes a test none does.
   none-before : (test : Event → Bool) (p i : ℕ) → p ≤ m → p ≤ i → i < m → i < firstFrom test p es
-      → T (not (test (atPlace (take m es) i)))
+      → T (not (test (atIndex (take m es) i)))
   none-before test p i l a h b =
       rw (getD-take m es i (Crash 0) h)
       (first-of test es few p (omega arith) .none i a b (omega arith))
 
--- The events before the place `past` have been looked at, and those that were kept are copied.
+-- The events before the index `past` have been looked at, and those that were kept are copied.
 pub record UpTo (es : List Event) (x m : ℕ) (p : Pick) (w : List ℕ) : Type 0 where
   pub linked : Linked es w
   pub within : m ≤ length es
@@ -48,13 +48,13 @@ pub record UpTo (es : List Event) (x m : ℕ) (p : Pick) (w : List ℕ) : Type 0
   pub operations : (j : ℕ) → j < p .count → T (isOperation (operationIn EVENTS w j))
   pub own : p .own ≡ firstFrom (ownEvent x) past es
   pub crash : p .crash ≡ firstFrom isCrash past es
-  pub thinned : (kept : List Event) (places : List ℕ) → Thins x true past (drop past (take m es)) kept places
-      → Thinned x (take m es) (eventsIn w (p .count) ++ kept) (placesIn w (p .count) ++ places)
+  pub thinned : (kept : List Event) (indices : List ℕ) → Thins x true past (drop past (take m es)) kept indices
+      → Thinned x (take m es) (eventsIn w (p .count) ++ kept) (indicesIn w (p .count) ++ indices)
 
 -- Where the first event that names x is not among the first m events, none is kept.
 pub pick-none : {es : List Event} {w : List ℕ} {x m : ℕ} → Linked es w → x < 32 → m ≤ length es
-    → m ≤ getD w (headOf x) 0 → Thinned x (take m es) (eventsIn w 0) (placesIn w 0)
-unfolding eventsFrom placesFrom
+    → m ≤ getD w (headOf x) 0 → Thinned x (take m es) (eventsIn w 0) (indicesIn w 0)
+unfolding eventsFrom indicesFrom
 pick-none {es} {w} {x} {m} linked h within none =
     let head = linked .heads x h in
     rest (none-own x (take m es) 0 (omega arith)
@@ -63,26 +63,26 @@ pick-none {es} {w} {x} {m} linked h within none =
 
 module _ {es : List Event} {w : List ℕ} {x m : ℕ} (linked : Linked es w) (within : m ≤ length es) where
   -- What a copy adds.
-  module _ (q k : ℕ) (inside : q < m) (low : k < MOST) (kept : List Event) (places : List ℕ) where
+  module _ (q k : ℕ) (inside : q < m) (low : k < MOST) (kept : List Event) (indices : List ℕ) where
     one-more :
-        Thinned x (take m es) (eventsIn w k ++ atPlace (take m es) q ∷ kept) (placesIn w k ++ q ∷ places)
+        Thinned x (take m es) (eventsIn w k ++ atIndex (take m es) q ∷ kept) (indicesIn w k ++ q ∷ indices)
         → Thinned x (take m es) (eventsIn (copied q k w) (k + 1) ++ kept)
-        (placesIn (copied q k w) (k + 1) ++ places)
+        (indicesIn (copied q k w) (k + 1) ++ indices)
     one-more thinned =
         let event = linked-event linked q (omega arith) ∙ sym (getD-take m es q (Crash 0) inside) in
         rw (
           copied-events w q k (linked .room) low,
-          copied-places w q k (linked .room) low,
+          copied-indices w q k (linked .room) low,
           event,
-          linked .places q (omega arith),
-          append-assoc (eventsIn w k) (atPlace (take m es) q ∷ []) kept,
-          append-assoc (placesIn w k) (q ∷ []) places,
+          linked .indices q (omega arith),
+          append-assoc (eventsIn w k) (atIndex (take m es) q ∷ []) kept,
+          append-assoc (indicesIn w k) (q ∷ []) indices,
         ) thinned
 
   -- The first event that names x is copied first.
   pub pick-begun : (first : ℕ) → x < 32 → first ≡ getD w (headOf x) 0 → first < m
       → UpTo es x m (pickFrom first w) (copied first 0 w)
-  unfolding eventsFrom placesFrom
+  unfolding eventsFrom indicesFrom
   pick-begun first h e inside =
       let L = take m es in
       let head = e ∙ linked .heads x h in
@@ -98,7 +98,7 @@ module _ {es : List Event} {w : List ℕ} {x m : ℕ} (linked : Linked es w) (wi
             (λ j l. absurd (omega arith));
         own = linked .owns x first (omega arith) (rw head names);
         crash = linked .crashes first (omega arith);
-        thinned = λ kept places thins. one-more first 0 inside (omega arith) kept places
+        thinned = λ kept indices thins. one-more first 0 inside (omega arith) kept indices
             (skip-to x L 0 first (omega arith) (omega arith)
             (λ i l k. none-before es m (linked .few) within (ownEvent x) 0 i (omega arith) l
             (omega arith) (omega arith))
@@ -107,7 +107,7 @@ module _ {es : List Event} {w : List ℕ} {x m : ℕ} (linked : Linked es w) (wi
 
 module _ {es : List Event} {w : List ℕ} {x m : ℕ} {p : Pick} (up : UpTo es x m p w) where
   -- When no event that names x is left, nothing more is kept.
-  pub pick-done : m ≤ p .own → Thinned x (take m es) (eventsIn w (p .count)) (placesIn w (p .count))
+  pub pick-done : m ≤ p .own → Thinned x (take m es) (eventsIn w (p .count)) (indicesIn w (p .count))
   pick-done h =
       let L = take m es in
       let few = up .linked .few in
@@ -115,7 +115,7 @@ module _ {es : List Event} {w : List ℕ} {x m : ℕ} {p : Pick} (up : UpTo es x
       let none = none-own x L (up .past) (omega (arith, up .reached))
       (λ i a b. none-before es m few (up .within) (ownEvent x) (up .past) i (up .reached) a (omega arith)
       (omega (arith, up .own))) in
-      rw (append-nil (eventsIn w (p .count)), append-nil (placesIn w (p .count))) at
+      rw (append-nil (eventsIn w (p .count)), append-nil (indicesIn w (p .count))) at
       (up .thinned [] [] (rest none))
 
   inside : up .past ≤ length es
@@ -134,22 +134,22 @@ module _ {es : List Event} {w : List ℕ} {x m : ℕ} {p : Pick} (up : UpTo es x
 
     -- An event at q is copied before which none from `past` on concerns x.
     next-thinned : (q : ℕ) → up .past ≤ q → q < m → q ≤ p .own → q ≤ p .crash
-        → (kept : List Event) (places : List ℕ) → Thins x true (suc q) (drop (suc q) (take m es)) kept places
+        → (kept : List Event) (indices : List ℕ) → Thins x true (suc q) (drop (suc q) (take m es)) kept indices
         → Thinned x (take m es) (eventsIn (copied q (p .count) w) (p .count + 1) ++ kept)
-        (placesIn (copied q (p .count) w) (p .count + 1) ++ places)
-    next-thinned q a b c d kept places thins =
+        (indicesIn (copied q (p .count) w) (p .count + 1) ++ indices)
+    next-thinned q a b c d kept indices thins =
         let L = take m es in
         let few = up .linked .few in
         let within = up .within in
         let long = short es m few within in
-        let apart : (i : ℕ) → up .past ≤ i → i < q → T (not (eventAt x (atPlace L i))) =
-        λ i k l. unconcerned x (atPlace L i)
+        let apart : (i : ℕ) → up .past ≤ i → i < q → T (not (eventAt x (atIndex L i))) =
+        λ i k l. unconcerned x (atIndex L i)
         (none-before es m few within (ownEvent x) (up .past) i (up .reached) k (omega arith)
         (omega (arith, up .own)))
         (none-before es m few within isCrash (up .past) i (up .reached) k (omega arith)
         (omega (arith, up .crash))) in
-        one-more (up .linked) within q (p .count) b pick-room kept places
-        (up .thinned (atPlace L q ∷ kept) (q ∷ places)
+        one-more (up .linked) within q (p .count) b pick-room kept indices
+        (up .thinned (atIndex L q ∷ kept) (q ∷ indices)
         (skip-to x L (up .past) q a (omega arith) apart (keep-at x L q (omega arith) thins)))
 
     -- A crash that comes before the next event that names x is copied.
@@ -187,7 +187,7 @@ module _ {es : List Event} {w : List ℕ} {x m : ℕ} {p : Pick} (up : UpTo es x
         let after = own-first .after in
         let names = own-first .passes (omega arith) in
         let later = first-later isCrash es few (up .past) q after (omega arith) (omega (arith, up .crash)) in
-        let next = first-next isCrash es q (omega arith) (own-no-crash x (atPlace es q) names) in
+        let next = first-next isCrash es q (omega arith) (own-no-crash x (atIndex es q) names) in
         record {
           linked = linked-same (copied-frame w q (p .count) (up .linked .room) pick-room) (up .linked);
           within = within;

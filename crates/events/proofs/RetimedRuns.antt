@@ -1,4 +1,4 @@
--- Steps for the events kept for a location, retimed by their places, run with all events as they do with those kept.
+-- Steps for the events kept for a location, retimed by their indices, run with all events as they do with those kept.
 use Prim.Native.Nat.{ℕ, suc, _+_, _-_, _≤_, _<_}
 use native.Mathlib.Nat.{eq-or-lt-of-le}
 use native.Mathlib.Omega.{arith}
@@ -18,7 +18,7 @@ use Rattle.model.specs.OneLocation.{ownEvent}
 use Rattle.events.specs.Thinning.{noneOwn, Thins, rest, keep, skip, Thinned}
 use Rattle.events.specs.Thinning.{retimed}
 use Rattle.events.proofs.Thinning.{foreign-possible, From, left-out}
-use Rattle.events.proofs.KeptEvents.{thins-places, thins-rise}
+use Rattle.events.proofs.KeptEvents.{thins-indices, thins-rise}
 
 -- ---- retiming by any clock
 
@@ -68,13 +68,13 @@ timed-inOrder clock k n m l h steady (p ∷ ps) b t =
 
 -- ---- the clock of the kept events
 
--- The kept events are those from the k-th to the m-th, and the clock shows the place of each.
-record Shows (clock : ℕ → ℕ) (k m : ℕ) (kept : List Event) (places : List ℕ) : Type 0 where
+-- The kept events are those from the k-th to the m-th, and the clock shows the index of each.
+record Shows (clock : ℕ → ℕ) (k m : ℕ) (kept : List Event) (indices : List ℕ) : Type 0 where
   pub all : m ≡ k + length kept
-  pub each : (j : ℕ) → j < length kept → clock (k + j) ≡ getD places j 0
+  pub each : (j : ℕ) → j < length kept → clock (k + j) ≡ getD indices j 0
 
-shows-rest : (clock : ℕ → ℕ) (k m : ℕ) {e : Event} {kept : List Event} {n : ℕ} {places : List ℕ}
-    → Shows clock k m (e ∷ kept) (n ∷ places) → Shows clock (suc k) m kept places
+shows-rest : (clock : ℕ → ℕ) (k m : ℕ) {e : Event} {kept : List Event} {n : ℕ} {indices : List ℕ}
+    → Shows clock k m (e ∷ kept) (n ∷ indices) → Shows clock (suc k) m kept indices
 shows-rest clock k m shows =
     record {
       all = omega (arith, shows .all);
@@ -83,31 +83,31 @@ shows-rest clock k m shows =
           ap clock same ∙ shows .each (suc j) (omega arith);
     }
 
-shows-first : (clock : ℕ → ℕ) (k m : ℕ) {e : Event} {kept : List Event} {n : ℕ} {places : List ℕ}
-    → Shows clock k m (e ∷ kept) (n ∷ places) → clock k ≡ n
+shows-first : (clock : ℕ → ℕ) (k m : ℕ) {e : Event} {kept : List Event} {n : ℕ} {indices : List ℕ}
+    → Shows clock k m (e ∷ kept) (n ∷ indices) → clock k ≡ n
 shows-first clock k m shows =
     let same : k ≡ k + 0 = omega arith in
     ap clock same ∙ shows .each 0 (omega arith)
 
 -- The clock is steady.
-shows-steady : (clock : ℕ → ℕ) (k m : ℕ) {x : Location} {begun : Bool} {n : ℕ} {es kept : List Event} {places : List ℕ}
-    → Thins x begun n es kept places → Shows clock k m kept places → Steady clock k m n (n + length es)
-shows-steady clock k m {kept} {places} thins shows i j g g' f =
+shows-steady : (clock : ℕ → ℕ) (k m : ℕ) {x : Location} {begun : Bool} {n : ℕ} {es kept : List Event} {indices : List ℕ}
+    → Thins x begun n es kept indices → Shows clock k m kept indices → Steady clock k m n (n + length es)
+shows-steady clock k m {kept} {indices} thins shows i j g g' f =
     let here = at i g (omega arith) in
     let there = at j (omega arith) f in
-    let low = thins-places thins (i - k) (omega (arith, shows .all)) in
-    let high = thins-places thins (j - k) (omega (arith, shows .all)) in (
+    let low = thins-indices thins (i - k) (omega (arith, shows .all)) in
+    let high = thins-indices thins (j - k) (omega (arith, shows .all)) in (
       omega (arith, here, low),
       ⊎-elim (λ e. rw e (omega arith)) (rises here there) (eq-or-lt-of-le g'),
       omega (arith, there, high),
     )
   where
-    at : (i : ℕ) → k ≤ i → i < m → clock i ≡ getD places (i - k) 0
+    at : (i : ℕ) → k ≤ i → i < m → clock i ≡ getD indices (i - k) 0
     at i g f =
         let same : i ≡ k + (i - k) = omega arith in
         ap clock same ∙ shows .each (i - k) (omega (arith, shows .all))
 
-    rises : clock i ≡ getD places (i - k) 0 → clock j ≡ getD places (j - k) 0 → i < j → clock i ≤ clock j
+    rises : clock i ≡ getD indices (i - k) 0 → clock j ≡ getD indices (j - k) 0 → i < j → clock i ≤ clock j
     rises here there l =
         omega (arith, here, there, thins-rise thins (i - k) (j - k) (omega arith) (omega (arith, shows .all)))
 
@@ -160,8 +160,8 @@ module _ (sys : Topology) (x : Location) where
             (ap (_&&_ (possibleAt sys x a s)) (more (nextAt sys x a s)))
 
     -- That is so of the kept events.
-    thins-alike : {begun : Bool} {n : ℕ} {es kept : List Event} {places : List ℕ} → Thins x begun n es kept places
-        → (k : ℕ) → Shows clock k m kept places
+    thins-alike : {begun : Bool} {n : ℕ} {es kept : List Event} {indices : List ℕ} → Thins x begun n es kept indices
+        → (k : ℕ) → Shows clock k m kept indices
         → (ps : List Step) → T (inOrder k m ps) → Below m ps → (s : Local) → From sys x begun s
         → Alike n es k kept ps s
     unfolding runsAt
@@ -170,7 +170,7 @@ module _ (sys : Topology) (x : Location) where
     thins-alike (rest none) k shows (p ∷ ps) t b s from =
         let o = inOrder-cons k m p ps .0 t in
         absurd (omega (arith, o .0, below-first b, shows .all))
-    thins-alike {n} (keep {e} {es} {kept} {places} h) k shows ps t b s from =
+    thins-alike {n} (keep {e} {es} {kept} {indices} h) k shows ps t b s from =
         let later = shows-rest clock k m shows in
         alike-due n (e ∷ es) k (e ∷ kept) (shows-first clock k m shows)
         (λ qs u c s.
@@ -189,40 +189,40 @@ module _ (sys : Topology) (x : Location) where
 
 -- ---- schedules
 
--- The clock that shows the places.
-abbrev pub placeOf : List ℕ → ℕ → ℕ
-placeOf places i = getD places i 0
+-- The clock that shows the indices.
+abbrev pub indexOf : List ℕ → ℕ → ℕ
+indexOf indices i = getD indices i 0
 
-module _ {x : Location} {es kept : List Event} {places : List ℕ} (thinned : Thinned x es kept places) where
-  shows-places : Shows (placeOf places) 0 (length kept) kept places
-  shows-places =
+module _ {x : Location} {es kept : List Event} {indices : List ℕ} (thinned : Thinned x es kept indices) where
+  shows-indices : Shows (indexOf indices) 0 (length kept) kept indices
+  shows-indices =
       record {
         all = omega arith;
-        each = λ j l. let same : 0 + j ≡ j = omega arith in ap (placeOf places) same;
+        each = λ j l. let same : 0 + j ≡ j = omega arith in ap (indexOf indices) same;
       }
 
   -- The retimed steps are in order.
   pub thinned-inOrder : {ps : List Step} → ((p : Step) → List·Memᴰ p ps → p .before < length kept)
-      → T (inOrder 0 (length kept) ps) → T (inOrder 0 (length es) (retimed places ps))
+      → T (inOrder 0 (length kept) ps) → T (inOrder 0 (length es) (retimed indices ps))
   unfolding retimed
   thinned-inOrder {ps} b t =
       let all : 0 + length es ≡ length es = omega arith in
       rw all at
-      (timed-inOrder (placeOf places) 0 (length kept) (length kept) 0 (0 + length es)
-      (shows-steady (placeOf places) 0 (length kept) thinned shows-places) ps b t)
+      (timed-inOrder (indexOf indices) 0 (length kept) (length kept) 0 (0 + length es)
+      (shows-steady (indexOf indices) 0 (length kept) thinned shows-indices) ps b t)
 
   -- Woven with all events they run at x as the steps do, woven with the kept ones.
   pub thinned-weave : (sys : Topology) {ps : List Step}
       → ((p : Step) → List·Memᴰ p ps → p .before < length kept)
       → T (inOrder 0 (length kept) ps)
-      → runsAt sys x (weave es (retimed places ps)) (startAt sys x)
+      → runsAt sys x (weave es (retimed indices ps)) (startAt sys x)
       ≡ runsAt sys x (weave kept ps) (startAt sys x)
   unfolding weave retimed
   thinned-weave sys {ps} b t =
-      thins-alike sys x (placeOf places) (length kept) thinned 0 shows-places ps t b (startAt sys x) refl
+      thins-alike sys x (indexOf indices) (length kept) thinned 0 shows-indices ps t b (startAt sys x) refl
 
--- Each retimed step is one of the steps, with its place.
-pub retimed-member : (places : List ℕ) (ps : List Step) (p : Step) → List·Memᴰ p (retimed places ps)
-    → (q : Step) × List·Memᴰ q ps × (timed (placeOf places) q ≡ p)
+-- Each retimed step is one of the steps, with its index.
+pub retimed-member : (indices : List ℕ) (ps : List Step) (p : Step) → List·Memᴰ p (retimed indices ps)
+    → (q : Step) × List·Memᴰ q ps × (timed (indexOf indices) q ≡ p)
 unfolding retimed
-retimed-member places ps p i = Memᴰ·of-map (timed (placeOf places)) ps i
+retimed-member indices ps p i = Memᴰ·of-map (timed (indexOf indices)) ps i

@@ -1,4 +1,4 @@
--- Steps of the kept events become steps of the log: each word's count becomes the place of an event.
+-- Steps of the kept events become steps of the log: each word's count becomes the index of an event.
 use Prim.Native.Nat.{ℕ, zero, suc, _+_, _*_, _-_, _/_, _%_, _≤_, _<_}
 use native.Mathlib.Nat.{le-of-suc-le-suc, add-zero, zero-add, div-div-eq-div-mul}
 use native.Mathlib.Omega.{arith}
@@ -9,10 +9,10 @@ use lib.Seq.{slice-empty, take-suc, take-suc-set, drop-append-le, length-take-le
 use Rattle.model.specs.Schedule.{Step}
 use Rattle.model.specs.Words.{stepOfWord}
 use Rattle.scratch.specs.Layout.{EVENTS, STEPS}
-use Rattle.scratch.specs.Words.{countOf}
+use Rattle.scratch.specs.Words.{countOf, LOCATION, INDEX}
 use Rattle.scratch.proofs.Frames.{only-none, only-set, only-then, only-wider, getD-below, getD-above}
 use Rattle.events.specs.Thinning.{retimed}
-use Rattle.events.specs.Linking.{placeIn, placesFrom, placesIn}
+use Rattle.events.specs.Linking.{indexIn, indicesFrom, indicesIn}
 use Rattle.events.specs.Retiming.{wordsBetween, Retimable, Retimed, withCount, WordRetimed}
 
 -- ---- one word
@@ -24,31 +24,31 @@ word-count v n small =
     let r = v - v % 256 + n in
     let count : r % 256 ≡ n = omega arith in
     let above : r / 256 ≡ v / 256 = omega arith in
-    let machine : r / 65536 ≡ v / 65536 =
+    let machine : r / LOCATION ≡ v / LOCATION =
     sym (div-div-eq-div-mul r 256 256) ∙ ap (λ (q : ℕ). q / 256) above ∙ div-div-eq-div-mul v 256 256 in
     rw (count, above, machine)
 
--- ---- the places
+-- ---- the indices
 
-places-from : (w : List ℕ) (j t k : ℕ) → t < k → getD (placesFrom w j k) t 0 ≡ placeIn EVENTS w (j + t)
-unfolding placesFrom
-places-from w j t zero h = absurd (omega arith)
-places-from w j zero (suc k) h = rw add-zero
-places-from w j (suc t) (suc k) h =
+indices-from : (w : List ℕ) (j t k : ℕ) → t < k → getD (indicesFrom w j k) t 0 ≡ indexIn EVENTS w (j + t)
+unfolding indicesFrom
+indices-from w j t zero h = absurd (omega arith)
+indices-from w j zero (suc k) h = rw add-zero
+indices-from w j (suc t) (suc k) h =
     let next : suc j + t ≡ j + suc t = omega arith in
-    rw (← next) (places-from w (suc j) t k (le-of-suc-le-suc h))
+    rw (← next) (indices-from w (suc j) t k (le-of-suc-le-suc h))
 
--- Of the places of the first k events, number t is that of event t.
-pub places-at : (w : List ℕ) (k t : ℕ) → t < k → getD (placesIn w k) t 0 ≡ placeIn EVENTS w t
-places-at w k t h = rw (zero-add t) at (places-from w 0 t k h)
+-- Of the indices of the first k events, number t is that of event t.
+pub indices-at : (w : List ℕ) (k t : ℕ) → t < k → getD (indicesIn w k) t 0 ≡ indexIn EVENTS w t
+indices-at w k t h = rw (zero-add t) at (indices-from w 0 t k h)
 
 -- ---- the words of the list
 
 -- One step more at the end.
-retimed-more : (places : List ℕ) (ps : List Step) (p : Step)
-    → retimed places (ps ++ p ∷ []) ≡ retimed places ps ++ withCount (getD places (p .before) 0) p ∷ []
+retimed-more : (indices : List ℕ) (ps : List Step) (p : Step)
+    → retimed indices (ps ++ p ∷ []) ≡ retimed indices ps ++ withCount (getD indices (p .before) 0) p ∷ []
 unfolding retimed
-retimed-more places ps p = map-append (λ p. withCount (getD places (p .before) 0) p) ps (p ∷ [])
+retimed-more indices ps p = map-append (λ p. withCount (getD indices (p .before) 0) p) ps (p ∷ [])
 
 -- One word more at the end, and the same with that word set.
 module _ (from j : ℕ) (w : List ℕ) (order : from ≤ j) (inside : STEPS + j < length w) where
@@ -91,14 +91,14 @@ module _ {k from to : ℕ} {w : List ℕ} (can : Retimable k from to w) {j : ℕ
   unfolding stepOfWord
   retimed-next r new =
       let v = getD w (STEPS + j) 0 in
-      let places = placesIn w k in
+      let indices = indicesIn w k in
       let old = wordsBetween from j w in
       let small = can .counts j order more in
       let kept = getD-below (so-far .frame) (EVENTS + 2 * countOf v) (omega (arith, small, can .few)) in
-      let place : placeIn EVENTS w' (countOf v) ≡ getD places (countOf v) 0 =
-      ap (λ (word : ℕ). word / 16777216 % 256) kept ∙ sym (places-at w k (countOf v) small) in
-      let step : stepOfWord r ≡ withCount (getD places (countOf v) 0) (stepOfWord v) =
-      (rw next-kept at new) ∙ ap (λ (n : ℕ). withCount n (stepOfWord v)) place in
+      let index : indexIn EVENTS w' (countOf v) ≡ getD indices (countOf v) 0 =
+      ap (λ (word : ℕ). word / INDEX % 256) kept ∙ sym (indices-at w k (countOf v) small) in
+      let step : stepOfWord r ≡ withCount (getD indices (countOf v) 0) (stepOfWord v) =
+      (rw next-kept at new) ∙ ap (λ (n : ℕ). withCount n (stepOfWord v)) index in
       let inside : STEPS + j < length w = omega (arith, can .room, can .short) in
       let before = ap (map stepOfWord) (words-more from j w order inside)
       ∙ map-append stepOfWord old (v ∷ []) in
@@ -109,6 +109,6 @@ module _ {k from to : ℕ} {w : List ℕ} (can : Retimable k from to w) {j : ℕ
         frame = only-then (only-wider (so-far .frame) (omega arith) (omega arith)) set-one;
         steps = after
             ∙ ap₂ (λ (ps : List Step) (p : Step). ps ++ p ∷ []) (so-far .steps) step
-            ∙ sym (retimed-more places (map stepOfWord old) (stepOfWord v))
-            ∙ sym (ap (retimed places) before);
+            ∙ sym (retimed-more indices (map stepOfWord old) (stepOfWord v))
+            ∙ sym (ap (retimed indices) before);
       }

@@ -119,8 +119,8 @@ module _ (sys : Topology) (x : Location) where
       (here, foreign-possible e _ none, rw here (foreign-next e none))
 
 -- All events have a run at x exactly if those kept have one.
-thins-run : (sys : Topology) {x : Location} {begun : Bool} {n : ℕ} {es kept : List Event} {places : List ℕ}
-    → Thins x begun n es kept places → (s : Local) → From sys x begun s
+thins-run : (sys : Topology) {x : Location} {begun : Bool} {n : ℕ} {es kept : List Event} {indices : List ℕ}
+    → Thins x begun n es kept indices → (s : Local) → From sys x begun s
     → HasRunAt sys x es s ↔ HasRunAt sys x kept s
 thins-run sys {x} (rest {es} t) s from = (λ r. has-run-nil sys x s, λ r. none-run sys x es t s)
 thins-run sys {x} (keep {e} {es} {kept} h) s from = (
@@ -144,6 +144,6 @@ thins-run sys {x} (skip {begun} {e} {es} {kept} t h) s from = (
 )
 
 -- From the start all events have a run exactly if those kept of them have one.
-pub thinned-run : (sys : Topology) {x : Location} {es kept : List Event} {places : List ℕ}
-    → Thinned x es kept places → HasRunAt sys x es (startAt sys x) ↔ HasRunAt sys x kept (startAt sys x)
+pub thinned-run : (sys : Topology) {x : Location} {es kept : List Event} {indices : List ℕ}
+    → Thinned x es kept indices → HasRunAt sys x es (startAt sys x) ↔ HasRunAt sys x kept (startAt sys x)
 thinned-run sys {x} thinned = thins-run sys thinned (startAt sys x) refl

@@ -17,7 +17,7 @@ copied j k w = pairAt (EVENTS + 2 * k) (getD w (LOG + 2 * j) 0) (getD w (LOG + 2
 abbrev pub pickFrom : ℕ → List ℕ → Pick
 pickFrom j w = record { own = nextOwnIn w j; crash = nextCrashIn w j; count = 1 }
 
--- The place of the event that is copied next, the earlier one of the two.
+-- The index of the event that is copied next, the earlier one of the two.
 abbrev pub nearer : Pick → ℕ
 nearer p = cond (ltb (p .crash) (p .own)) (p .crash) (p .own)
 

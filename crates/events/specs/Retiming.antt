@@ -1,4 +1,4 @@
--- The words of steps whose counts of kept events become places of the log.
+-- The words of steps whose counts of kept events become indices of the log.
 use Prim.Native.Nat.{ℕ, _+_, _*_, _≤_, _<_}
 use mathlib.Core.Path.{_≡_}
 use mathlib.Core.List.{List, map}
@@ -9,7 +9,7 @@ use Rattle.model.specs.Words.{stepOfWord}
 use Rattle.scratch.specs.Layout.{EVENTS, STEPS, WORDS, MOST, MOST-STEPS, OnlyIn}
 use Rattle.scratch.specs.Words.{countOf}
 use Rattle.events.specs.Thinning.{retimed}
-use Rattle.events.specs.Linking.{placeIn, placesIn}
+use Rattle.events.specs.Linking.{indexIn, indicesIn}
 
 -- The words of the list of steps from number `from` to number `to`, the second not included.
 abbrev pub wordsBetween : ℕ → ℕ → List ℕ → List ℕ
@@ -23,16 +23,16 @@ pub record Retimable (k from to : ℕ) (w : List ℕ) : Type 0 where
   pub short : to ≤ 2 * MOST-STEPS
   pub counts : (j : ℕ) → from ≤ j → j < to → countOf (getD w (STEPS + j) 0) < k
 
--- Their steps are retimed by the places of the k events from EVENTS on, and no other word has changed.
+-- Their steps are retimed by the indices of the k events from EVENTS on, and no other word has changed.
 pub record Retimed (k from to : ℕ) (w w' : List ℕ) : Type 0 where
   pub frame : OnlyIn (STEPS + from) (STEPS + to) w w'
   pub steps : map stepOfWord (wordsBetween from to w')
-      ≡ retimed (placesIn w k) (map stepOfWord (wordsBetween from to w))
+      ≡ retimed (indicesIn w k) (map stepOfWord (wordsBetween from to w))
 
 -- The step with another count of events before it.
 abbrev pub withCount : ℕ → Step → Step
 withCount n p = record { before = n; location = p .location; machine = p .machine }
 
--- The word r has the step of the word v, with the place of the event that its count numbers for the count.
+-- The word r has the step of the word v, with the index of the event that its count numbers for the count.
 abbrev pub WordRetimed : List ℕ → ℕ → ℕ → Type 0
-WordRetimed w v r = stepOfWord r ≡ withCount (placeIn EVENTS w (countOf v)) (stepOfWord v)
+WordRetimed w v r = stepOfWord r ≡ withCount (indexIn EVENTS w (countOf v)) (stepOfWord v)

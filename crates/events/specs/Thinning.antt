@@ -19,20 +19,20 @@ abbrev pub matters : (begun : Bool) → Location → Event → Bool
 matters true x e = eventAt x e
 matters false x e = ownEvent x e
 
--- The events es stand at the places from n on; those at `places` are kept, and `begun` says whether any was before.
+-- The events es stand at the indices from n on; those at `indices` are kept, and `begun` says whether any was before.
 -- Left out are events that need not be kept, and all after the last one that names x.
-pub data Thins (x : Location) : Bool → ℕ → List Event → (kept : List Event) (places : List ℕ) → Type 0 where
+pub data Thins (x : Location) : Bool → ℕ → List Event → (kept : List Event) (indices : List ℕ) → Type 0 where
   rest : {begun : Bool} {n : ℕ} {es : List Event} → T (noneOwn x es) → Thins x begun n es [] []
-  keep : {begun : Bool} {n : ℕ} {e : Event} {es kept : List Event} {places : List ℕ}
-      → Thins x true (suc n) es kept places → Thins x begun n (e ∷ es) (e ∷ kept) (n ∷ places)
-  skip : {begun : Bool} {n : ℕ} {e : Event} {es kept : List Event} {places : List ℕ}
-      → T (not (matters begun x e)) → Thins x begun (suc n) es kept places → Thins x begun n (e ∷ es) kept places
+  keep : {begun : Bool} {n : ℕ} {e : Event} {es kept : List Event} {indices : List ℕ}
+      → Thins x true (suc n) es kept indices → Thins x begun n (e ∷ es) (e ∷ kept) (n ∷ indices)
+  skip : {begun : Bool} {n : ℕ} {e : Event} {es kept : List Event} {indices : List ℕ}
+      → T (not (matters begun x e)) → Thins x begun (suc n) es kept indices → Thins x begun n (e ∷ es) kept indices
 
 -- What is kept of all events.
-abbrev pub Thinned : Location → List Event → (kept : List Event) (places : List ℕ) → Type 0
-Thinned x es kept places = Thins x false 0 es kept places
+abbrev pub Thinned : Location → List Event → (kept : List Event) (indices : List ℕ) → Type 0
+Thinned x es kept indices = Thins x false 0 es kept indices
 
--- A step of the kept events as a step of all: the count of kept events before it becomes the place of the next one.
+-- A step of the kept events as a step of all: the count of kept events before it becomes the index of the next one.
 unfoldable pub retimed : List ℕ → List Step → List Step
-retimed places ps =
-    map (λ p. record { before = getD places (p .before) 0; location = p .location; machine = p .machine }) ps
+retimed indices ps =
+    map (λ p. record { before = getD indices (p .before) 0; location = p .location; machine = p .machine }) ps

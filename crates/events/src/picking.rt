@@ -2,7 +2,10 @@
 use crate::linking::head_of;
 use model::Location;
 use scratch::EVENTS;
+use scratch::INDEX;
 use scratch::LOG;
+use scratch::NEXT_CRASH;
+use scratch::NEXT_OWN;
 use scratch::put_pair;
 ghost use Prim.Native.Nat.{_+_, _*_, _≤_, _<_};
 ghost use mathlib.Core.Path.{_≡_};
@@ -10,22 +13,22 @@ ghost use mathlib.Core.List.{List};
 ghost use lib.ListN.{length, getD};
 ghost use Rattle.model.specs.Cxl0.{Event};
 ghost use Rattle.scratch.specs.Layout.{EVENTS, WORDS, MOST, LOG};
-ghost use Rattle.events.specs.Linking.{placeIn, Linked, Picked};
+ghost use Rattle.events.specs.Linking.{indexIn, Linked, Picked};
 ghost use Rattle.events.specs.Picking.{copied, nearer, pickAfter, pickFrom};
 
-// The places of the next event of the location and of the next crash, and how many events have been copied.
+// The indices of the next event of the location and of the next crash, and how many events have been copied.
 pub struct Pick {
     pub own: usize,
     pub crash: usize,
     pub count: usize,
 }
 
-// The place of event t of the search among the events of the log.
-pub fn place(w: &[u64], t: usize) -> usize
+// The index of event t of the search among the events of the log.
+pub fn index(w: &[u64], t: usize) -> usize
     requires { ⌜ (WORDS ≤ length (now w)) × (t < MOST) ⌝ }
-    ensures { λ r. ⌜ r ≡ placeIn EVENTS (now (w .entry)) t ⌝ }
+    ensures { λ r. ⌜ r ≡ indexIn EVENTS (now (w .entry)) t ⌝ }
 {
-    (w[EVENTS + 2 * t] / 16777216 % 256) as usize
+    (w[EVENTS + 2 * t] / INDEX % 256) as usize
 }
 
 // Makes event j of the log event k of the search, and hands back its first word.
@@ -49,8 +52,8 @@ fn pick_first(w: &mut [u64], first: usize) -> Pick
 {
     let word = copy_event(w, first, 0);
     Pick {
-        own: (word / 4294967296 % 256) as usize,
-        crash: (word / 1099511627776 % 256) as usize,
+        own: (word / NEXT_OWN % 256) as usize,
+        crash: (word / NEXT_CRASH % 256) as usize,
         count: 1,
     }
 }
@@ -65,13 +68,13 @@ fn pick_one(w: &mut [u64], p: Pick) -> Pick
         let word = copy_event(w, p.crash, p.count);
         return Pick {
             own: p.own,
-            crash: (word / 1099511627776 % 256) as usize,
+            crash: (word / NEXT_CRASH % 256) as usize,
             count: p.count + 1,
         };
     }
     let word = copy_event(w, p.own, p.count);
     Pick {
-        own: (word / 4294967296 % 256) as usize,
+        own: (word / NEXT_OWN % 256) as usize,
         crash: p.crash,
         count: p.count + 1,
     }

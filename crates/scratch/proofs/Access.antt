@@ -9,7 +9,7 @@ use Rattle.model.specs.Cxl0.{Value}
 use Rattle.rows.specs.declared.Row.{Row}
 use Rattle.scratch.specs.declared.Waypoint.{Waypoint}
 use Rattle.scratch.specs.Layout.{ROWS, WAYPOINTS, WORDS, MOST, OnlyIn}
-use Rattle.scratch.specs.Words.{pairAt, rowIn, copyIn, waypointIn, RowPut, CopyPut, WaypointPut}
+use Rattle.scratch.specs.Words.{U32, pairAt, rowIn, copyIn, waypointIn, RowPut, CopyPut, WaypointPut}
 use Rattle.scratch.proofs.Frames.{only-set, only-then}
 
 -- Two words that are written one after the other: how they read, and that they are all that has changed.
@@ -29,12 +29,12 @@ module _ (w : List ℕ) (i a b : ℕ) where
       (only-set i to (set w i a) (i + 1) b (omega arith) (omega arith))
 
 -- The parts of a place's word.
-place-parts : (word c m end : ℕ) → c < 256 → m < 4294967296 → word ≡ c + 256 * m + 1099511627776 * end
-    → (word % 256 ≡ c) × (word / 256 % 4294967296 ≡ m) × (word / 1099511627776 ≡ end)
+place-parts : (word c m end : ℕ) → c < 256 → m < U32 → word ≡ c + 256 * m + 256 * U32 * end
+    → (word % 256 ≡ c) × (word / 256 % U32 ≡ m) × (word / (256 * U32) ≡ end)
 place-parts word c m end p q e = (omega arith, omega arith, omega arith)
 
 module _ (w : List ℕ) (room : WORDS ≤ length w) where
-  pub row-put : (t : ℕ) (row : Row) → t ≤ MOST → row .value < 4294967296
+  pub row-put : (t : ℕ) (row : Row) → t ≤ MOST → row .value < U32
       → RowPut w t row (set (pairAt (ROWS + 4 * t) (row .any) (row .one) w) (ROWS + 4 * t + 2) (row .value))
   unfolding rowIn
   row-put t row h v =
@@ -43,7 +43,7 @@ module _ (w : List ℕ) (room : WORDS ≤ length w) where
       let read = two-read w at (row .any) (row .one) (omega arith) in
       let last = getD-set-same w' (at + 2) (row .value) 0 (simp length-set (omega arith)) in
       let w'' = set w' (at + 2) (row .value) in
-      let third : getD w'' (at + 2) 0 % 4294967296 ≡ row .value = omega (arith, last) in
+      let third : getD w'' (at + 2) 0 % U32 ≡ row .value = omega (arith, last) in
       record {
         frame = only-then (two-only w at (row .any) (row .one) (at + 3) (omega arith))
             (only-set at (at + 3) w' (at + 2) (row .value) (omega arith) (omega arith));
@@ -54,7 +54,7 @@ module _ (w : List ℕ) (room : WORDS ≤ length w) where
         };
       }
 
-  pub copy-put : (t : ℕ) (u : Value) → t ≤ MOST → u < 4294967296 → CopyPut w t u (set w (ROWS + 4 * t + 3) u)
+  pub copy-put : (t : ℕ) (u : Value) → t ≤ MOST → u < U32 → CopyPut w t u (set w (ROWS + 4 * t + 3) u)
   unfolding copyIn
   copy-put t u h v =
       let at = ROWS + 4 * t + 3 in
@@ -63,12 +63,12 @@ module _ (w : List ℕ) (room : WORDS ≤ length w) where
         stored = omega (arith, getD-set-same w at u 0 (omega arith));
       }
 
-  pub waypoint-put : (t : ℕ) (p : Waypoint) → t < MOST → p .code < 256 → p .memory < 4294967296
-      → WaypointPut w t p (set w (WAYPOINTS + t) (p .code + 256 * p .memory + 1099511627776 * p .end))
+  pub waypoint-put : (t : ℕ) (p : Waypoint) → t < MOST → p .code < 256 → p .memory < U32
+      → WaypointPut w t p (set w (WAYPOINTS + t) (p .code + 256 * p .memory + 256 * U32 * p .end))
   unfolding waypointIn
   waypoint-put t p h c m =
       let at = WAYPOINTS + t in
-      let word = p .code + 256 * p .memory + 1099511627776 * p .end in
+      let word = p .code + 256 * p .memory + 256 * U32 * p .end in
       let read = getD-set-same w at word 0 (omega arith) in
       let parts = place-parts (getD (set w at word) at 0) (p .code) (p .memory) (p .end) c m read in
       record {

@@ -13,28 +13,49 @@ use Rattle.rows.specs.declared.Row.{Row}
 use Rattle.scratch.specs.declared.Waypoint.{Waypoint}
 use Rattle.scratch.specs.Layout.{EVENTS, ROWS, WAYPOINTS, OnlyIn}
 
+-- How many values 32 bits have.
+abbrev pub U32 : ℕ
+U32 = 4294967296
+
 -- The area with two words from a place on.
 abbrev pub pairAt : ℕ → ℕ → ℕ → List ℕ → List ℕ
 pairAt place a b w = set (set w place a) (place + 1) b
 
 -- ---- events
 
+-- The first word of an event has a byte for each of operation, machine, location, its index in the log, the index of
+-- the next event of its location, and that of the next crash, from the lowest on: what a byte counts in it.
+abbrev pub MACHINE : ℕ
+MACHINE = 256
+
+abbrev pub LOCATION : ℕ
+LOCATION = 256 * MACHINE
+
+abbrev pub INDEX : ℕ
+INDEX = 256 * LOCATION
+
+abbrev pub NEXT-OWN : ℕ
+NEXT-OWN = 256 * INDEX
+
+abbrev pub NEXT-CRASH : ℕ
+NEXT-CRASH = 256 * NEXT-OWN
+
 -- Event j: operation, machine and location in one word, the value in the next. As an event, and as the program's
 -- struct.
 unfoldable pub eventIn : List ℕ → ℕ → Event
 eventIn w j =
     eventOf (getD w (EVENTS + 2 * j) 0 % 256)
-    (getD w (EVENTS + 2 * j) 0 / 256 % 256)
-    (getD w (EVENTS + 2 * j) 0 / 65536 % 256)
-    (getD w (EVENTS + 2 * j + 1) 0 % 4294967296)
+    (getD w (EVENTS + 2 * j) 0 / MACHINE % 256)
+    (getD w (EVENTS + 2 * j) 0 / LOCATION % 256)
+    (getD w (EVENTS + 2 * j + 1) 0 % U32)
 
 abbrev pub structIn : List ℕ → ℕ → event.Event
 structIn w j =
     record {
       operation = getD w (EVENTS + 2 * j) 0 % 256;
-      machine = record { 0 = getD w (EVENTS + 2 * j) 0 / 256 % 256 };
-      location = record { 0 = getD w (EVENTS + 2 * j) 0 / 65536 % 256 };
-      value = getD w (EVENTS + 2 * j + 1) 0 % 4294967296;
+      machine = record { 0 = getD w (EVENTS + 2 * j) 0 / MACHINE % 256 };
+      location = record { 0 = getD w (EVENTS + 2 * j) 0 / LOCATION % 256 };
+      value = getD w (EVENTS + 2 * j + 1) 0 % U32;
     }
 
 -- Events j to j + m - 1.
@@ -54,11 +75,11 @@ rowIn w t =
     record {
       any = getD w (ROWS + 4 * t) 0;
       one = getD w (ROWS + 4 * t + 1) 0;
-      value = getD w (ROWS + 4 * t + 2) 0 % 4294967296;
+      value = getD w (ROWS + 4 * t + 2) 0 % U32;
     }
 
 unfoldable pub copyIn : List ℕ → ℕ → Value
-copyIn w t = getD w (ROWS + 4 * t + 3) 0 % 4294967296
+copyIn w t = getD w (ROWS + 4 * t + 3) 0 % U32
 
 -- Row t is `row`, and no other word has changed.
 pub record RowPut (w : List ℕ) (t : ℕ) (row : Row) (w' : List ℕ) : Type 0 where
@@ -77,8 +98,8 @@ unfoldable pub waypointIn : List ℕ → ℕ → Waypoint
 waypointIn w t =
     record {
       code = getD w (WAYPOINTS + t) 0 % 256;
-      memory = getD w (WAYPOINTS + t) 0 / 256 % 4294967296;
-      end = getD w (WAYPOINTS + t) 0 / 1099511627776;
+      memory = getD w (WAYPOINTS + t) 0 / 256 % U32;
+      end = getD w (WAYPOINTS + t) 0 / (256 * U32);
     }
 
 -- The waypoint before event t is p, and no other word has changed.

@@ -43,6 +43,24 @@ pub const LOG: usize = WAYPOINTS + MOST;
 
 pub const HEADS: usize = LOG + 2 * MOST;
 
+// The first word of an event has a byte for each of operation, machine, location, its index in the log, the index
+// of the next event of its location, and that of the next crash, from the lowest on: what a byte counts in it.
+pub const MACHINE: u64 = 256;
+
+pub const LOCATION: u64 = 256 * MACHINE;
+
+pub const INDEX: u64 = 256 * LOCATION;
+
+pub const NEXT_OWN: u64 = 256 * INDEX;
+
+pub const NEXT_CRASH: u64 = 256 * NEXT_OWN;
+
+// How many values 32 bits have. A waypoint has its code in the lowest byte of a word, its memory value in the next four
+// and where its steps end above them.
+const U32: u64 = 1 << 32;
+
+const STEPS_END: u64 = 256 * U32;
+
 // Where the walk stands: the code and the memory value of the location, and where the list of steps ends.
 pub struct Waypoint {
     pub code: u8,
@@ -69,9 +87,9 @@ pub fn get_event(w: &[u64], j: usize) -> Event
     let value = w[at + 1];
     Event {
         operation: (word % 256) as u8,
-        machine: Machine((word / 256 % 256) as u8),
-        location: Location((word / 65536 % 256) as u8),
-        value: (value % 4294967296) as u32,
+        machine: Machine((word / MACHINE % 256) as u8),
+        location: Location((word / LOCATION % 256) as u8),
+        value: (value % U32) as u32,
     }
 }
 
@@ -84,7 +102,7 @@ pub fn get_row(w: &[u64], t: usize) -> Row
     Row {
         any: w[at],
         one: w[at + 1],
-        value: (w[at + 2] % 4294967296) as u32,
+        value: (w[at + 2] % U32) as u32,
     }
 }
 
@@ -104,7 +122,7 @@ pub fn get_copy(w: &[u64], t: usize) -> u32
     requires { ⌜ (WORDS ≤ length (now w)) × (t ≤ MOST) ⌝ }
     ensures { λ r. ⌜ r ≡ copyIn (now (w .entry)) t ⌝ }
 {
-    (w[ROWS + 4 * t + 3] % 4294967296) as u32
+    (w[ROWS + 4 * t + 3] % U32) as u32
 }
 
 // Makes u the value of the copies before event t.
@@ -123,8 +141,8 @@ pub fn get_waypoint(w: &[u64], t: usize) -> Waypoint
     let word = w[WAYPOINTS + t];
     Waypoint {
         code: (word % 256) as u8,
-        memory: (word / 256 % 4294967296) as u32,
-        end: (word / 1099511627776) as usize,
+        memory: (word / 256 % U32) as u32,
+        end: (word / STEPS_END) as usize,
     }
 }
 
@@ -133,7 +151,7 @@ pub fn put_waypoint(w: &mut [u64], t: usize, p: Waypoint)
     requires { ⌜ (WORDS ≤ length (now w)) × (t < MOST) × (p .end ≤ WORDS) ⌝ }
     ensures { λ _. ⌜ WaypointPut (now (w .entry)) t p (now (w .exit)) ⌝ }
 {
-    w[WAYPOINTS + t] = p.code as u64 + 256 * (p.memory as u64) + 1099511627776 * (p.end as u64);
+    w[WAYPOINTS + t] = p.code as u64 + 256 * (p.memory as u64) + STEPS_END * (p.end as u64);
 }
 
 // Makes every word 0, of an area of any length.

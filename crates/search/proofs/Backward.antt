@@ -15,7 +15,7 @@ use Rattle.rows.specs.Sites.{copyAfter}
 use Rattle.rows.specs.Steps.{Stepped}
 use Rattle.rows.proofs.Rows.{last-right, last-closed}
 use Rattle.scratch.specs.Layout.{ROWS, STEPS, MOST}
-use Rattle.scratch.specs.Words.{eventIn, eventsIn, rowIn, copyIn, RowPut}
+use Rattle.scratch.specs.Words.{U32, eventIn, eventsIn, rowIn, copyIn, RowPut}
 use Rattle.walking.specs.Passes.{Copies, Answers, Ready, Steppable, OnlyRows}
 use Rattle.scratch.proofs.Frames.{only-none, only-then, only-wider, getD-below, getD-above}
 use Rattle.scratch.proofs.Events.{struct-same, event-same, events-drop, events-drop-all, copies-suc}
@@ -32,7 +32,7 @@ module _ {t : ℕ} {row : Row} {w w' : List ℕ} (put : RowPut w t row w') where
   copy-kept : (d : ℕ) → copyIn w' d ≡ copyIn w d
   unfolding copyIn
   copy-kept d =
-      ap (λ (v : ℕ). v % 4294967296)
+      ap (λ (v : ℕ). v % U32)
       (elim (decLe t d) [
         | yes b ↦ getD-above (put .frame) (ROWS + 4 * d + 3) (omega arith)
         | no b ↦ getD-below (put .frame) (ROWS + 4 * d + 3) (omega arith)

@@ -31,7 +31,7 @@ module _ {w w' : List ℕ} (only : OnlyIn 0 LOG w w') (n : ℕ) where
         few = l .few;
         events = rw (only .above) (l .events);
         operations = λ j h. rw (getD-above only (LOG + 2 * j) (omega arith)) (l .operations j h);
-        places = λ j h. rw (getD-above only (LOG + 2 * j) (omega arith)) (l .places j h);
+        indices = λ j h. rw (getD-above only (LOG + 2 * j) (omega arith)) (l .indices j h);
         owns = λ x j h o. rw (getD-above only (LOG + 2 * j) (omega arith)) (l .owns x j h o);
         crashes = λ j h. rw (getD-above only (LOG + 2 * j) (omega arith)) (l .crashes j h);
         heads = λ x h. rw (getD-above only (headOf x) (omega arith)) (l .heads x h);

@@ -1,5 +1,5 @@
 -- Extending the list of steps: the words of a schedule stand behind those of the list, and then their counts
--- of picked events become places of the log.
+-- of picked events become indices of the log.
 use Prim.Native.Nat.{ℕ, zero, suc, _+_, _-_, _*_, _≤_, _<_}
 use native.Mathlib.Nat.{le-of-suc-le-suc, not-suc-le-zero}
 use native.Mathlib.Omega.{arith}
@@ -20,11 +20,11 @@ use Rattle.walking.specs.Walks.{Schedules}
 use Rattle.search.specs.declared.explaining.Found.{Found}
 use Rattle.search.specs.Paths.{Kept, Explainable, Scheduled, Explained}
 use Rattle.events.specs.Thinning.{retimed}
-use Rattle.events.specs.Linking.{placesFrom, placesIn}
+use Rattle.events.specs.Linking.{indicesFrom, indicesIn}
 use Rattle.events.specs.Retiming.{wordsBetween, Retimable, Retimed}
 
 -- The list of `more` words is that of `count` words and after it a schedule for the k events, retimed by
--- their places.
+-- their indices.
 pub record Extended (s : Site) (k count : ℕ) (w : List ℕ) (more : ℕ) (w' : List ℕ) : Type 0 where
   pub frame : OnlyIn ROWS LOG w w'
   pub words : List ℕ
@@ -32,7 +32,7 @@ pub record Extended (s : Site) (k count : ℕ) (w : List ℕ) (more : ℕ) (w' :
   pub list : wordsAt STEPS more w' ≡ wordsAt STEPS count w ++ words
   pub steps : List Step
   pub schedules : Schedules s (eventsIn w k) steps
-  pub timed : map stepOfWord words ≡ retimed (placesIn w k) steps
+  pub timed : map stepOfWord words ≡ retimed (indicesIn w k) steps
 
 -- ---- words of the area
 
@@ -57,19 +57,19 @@ getD-slice : (from to : ℕ) (w : List ℕ) (j : ℕ) → from + j < to
     → getD (slice from to w) j 0 ≡ getD w (from + j) 0
 getD-slice from to w j h = getD-drop from (take to w) j 0 ∙ getD-take to w (from + j) 0 h
 
--- ---- places and counts
+-- ---- indices and counts
 
-places-from : {to : ℕ} {w w' : List ℕ} → OnlyIn ROWS to w w' → (j k : ℕ) → j + k ≤ MOST
-    → placesFrom w' j k ≡ placesFrom w j k
-unfolding placesFrom
-places-from p j zero h = refl
-places-from p j (suc k) h =
-    rw (getD-below p (EVENTS + 2 * j) (omega arith), places-from p (suc j) k (omega arith))
+indices-from : {to : ℕ} {w w' : List ℕ} → OnlyIn ROWS to w w' → (j k : ℕ) → j + k ≤ MOST
+    → indicesFrom w' j k ≡ indicesFrom w j k
+unfolding indicesFrom
+indices-from p j zero h = refl
+indices-from p j (suc k) h =
+    rw (getD-below p (EVENTS + 2 * j) (omega arith), indices-from p (suc j) k (omega arith))
 
--- Equal words of the events give equal places.
-places-same : {to : ℕ} {w w' : List ℕ} → OnlyIn ROWS to w w' → (k : ℕ) → k ≤ MOST
-    → placesIn w' k ≡ placesIn w k
-places-same p k h = places-from p 0 k (omega arith)
+-- Equal words of the events give equal indices.
+indices-same : {to : ℕ} {w w' : List ℕ} → OnlyIn ROWS to w w' → (k : ℕ) → k ≤ MOST
+    → indicesIn w' k ≡ indicesIn w k
+indices-same p k h = indices-from p 0 k (omega arith)
 
 -- The counts of words whose steps all have fewer than k events before them.
 counts-below : (k : ℕ) (ws : List ℕ) → ((p : Step) → List·Memᴰ p (map stepOfWord ws) → p .before < k)
@@ -80,7 +80,7 @@ counts-below k (v ∷ ws) h zero l = h (stepOfWord v) (List·Memᴰ·head refl)
 counts-below k (v ∷ ws) h (suc j) l =
     counts-below k ws (λ p i. h p (List·Memᴰ·tail i)) j (le-of-suc-le-suc l)
 
--- ---- the schedule, and the places
+-- ---- the schedule, and the indices
 
 module _ {s : Site} {k count : ℕ} {found : Found} {w w₁ : List ℕ} (can : Explainable s k count w)
     (few : k ≤ MOST) (done : Explained s k count w found w₁) (all : found .events ≡ k) where
@@ -123,7 +123,7 @@ module _ {s : Site} {k count : ℕ} {found : Found} {w w₁ : List ℕ} (can : E
             i (omega (arith, new .counted)));
       }
 
-  -- With the places of the log, the list is extended.
+  -- With the indices of the log, the list is extended.
   pub found-extended : {w₂ : List ℕ} → Retimed k count more w₁ w₂ → Extended s k count w more w₂
   found-extended {w₂} timed =
       let kept = kept-only (done .kept) in
@@ -139,5 +139,5 @@ module _ {s : Site} {k count : ℕ} {found : Found} {w w₁ : List ℕ} (can : E
             (ap (drop STEPS) (timed .frame .below) ∙ done .kept .list);
         steps = map stepOfWord words;
         schedules = new .schedules;
-        timed = timed .steps ∙ ap₂ retimed (places-same kept k (can .few)) (ap (map stepOfWord) stored);
+        timed = timed .steps ∙ ap₂ retimed (indices-same kept k (can .few)) (ap (map stepOfWord) stored);
       }

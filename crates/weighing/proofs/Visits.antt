@@ -21,7 +21,7 @@ use Rattle.model.proofs.NamedEvents.{named-take}
 use Rattle.entries.specs.declared.Site.{Site}
 use Rattle.rows.specs.Sites.{Describes}
 use Rattle.scratch.specs.Layout.{EVENTS, ROWS, STEPS, WORDS, MOST, OnlyIn, LOG}
-use Rattle.scratch.specs.Words.{eventsFrom, eventsIn, wordsAt, stepsAt}
+use Rattle.scratch.specs.Words.{INDEX, eventsFrom, eventsIn, wordsAt, stepsAt}
 use Rattle.scratch.proofs.Frames.{only-then, only-wider, getD-below}
 use Rattle.scratch.proofs.Segments.{words-after}
 use Rattle.scratch.proofs.Events.{events-take, events-length}
@@ -30,9 +30,9 @@ use Rattle.search.specs.declared.explaining.Found.{Found}
 use Rattle.search.specs.Paths.{Explainable, Explained}
 use Rattle.search.proofs.Prefixes.{has-run-at-prefix}
 use Rattle.events.specs.Thinning.{Thinned, retimed}
-use Rattle.events.specs.Linking.{placeIn, placesIn, logged, Linked, Picked}
+use Rattle.events.specs.Linking.{indexIn, indicesIn, logged, Linked, Picked}
 use Rattle.events.specs.Retiming.{Retimable, Retimed}
-use Rattle.events.proofs.Retimings.{places-at}
+use Rattle.events.proofs.Retimings.{indices-at}
 use Rattle.events.proofs.Thinning.{thinned-run}
 use Rattle.events.proofs.KeptEvents.{thinned-take, thins-named}
 use Rattle.weighing.specs.Gathering.{Gathered}
@@ -106,7 +106,7 @@ module _ {t : topology.Topology} {n x : ℕ} {p : Progress} {w : List ℕ} (can 
       (eq-or-lt-of-le (le-of-suc-le-suc l))
 
   module _ {k : ℕ} {w₁ : List ℕ} (picked : Picked x m w k w₁) where
-    thinned : Thinned x (take m es) (eventsIn w₁ k) (placesIn w₁ k)
+    thinned : Thinned x (take m es) (eventsIn w₁ k) (indicesIn w₁ k)
     thinned = picked .thinned es (can .weighable .linked) (can .tried .most)
 
     few-picked : k ≤ MOST
@@ -152,13 +152,13 @@ module _ {t : topology.Topology} {n x : ℕ} {p : Progress} {w : List ℕ} (can 
 
       -- A schedule of the picked events, retimed, is one of the log's events, if these are all.
       whole : m ≡ length es → {qs : List Step} → Schedules s (eventsIn w₁ k) qs
-          → Schedules s es (retimed (placesIn w₁ k) qs)
+          → Schedules s es (retimed (indicesIn w₁ k) qs)
       whole e sch =
           let all = rw (all-taken e, ← here) at thinned in
           thinned-schedules all (sch .early) sch
 
       gathered-here : m ≡ length es → {ps qs : List Step} → Gathered sys es x ps
-          → Schedules s (eventsIn w₁ k) qs → Gathered sys es (suc x) (ps ++ retimed (placesIn w₁ k) qs)
+          → Schedules s (eventsIn w₁ k) qs → Gathered sys es (suc x) (ps ++ retimed (indicesIn w₁ k) qs)
       gathered-here e g sch = rw (← here) (gathered-more sys es (rw (← here) at g) (whole e sch) placed)
 
     -- ---- no event was picked
@@ -214,18 +214,18 @@ module _ {t : topology.Topology} {n x : ℕ} {p : Progress} {w : List ℕ} (can 
       run-good : RunsHere (take good (eventsIn w₁ k))
       run-good = rw (events-take w₁ good k (done .most)) (rw here at (done .runs sys d))
 
-      -- The place of the first event that has no run.
-      visit-place : good < k → placeIn EVENTS w₂ good ≡ getD (placesIn w₁ k) good 0
-      visit-place l =
+      -- The index of the first event that has no run.
+      visit-index : good < k → indexIn EVENTS w₂ good ≡ getD (indicesIn w₁ k) good 0
+      visit-index l =
           let below = getD-below frame (EVENTS + 2 * good) (omega (arith, few-picked)) in
-          ap (λ (v : ℕ). v / 16777216 % 256) below ∙ sym (places-at w₁ k good l)
+          ap (λ (v : ℕ). v / INDEX % 256) below ∙ sym (indices-at w₁ k good l)
 
       -- Not all of them have a run.
-      pub visit-ends : good < k → (e : ℕ) → e ≡ placeIn EVENTS w₂ good
+      pub visit-ends : good < k → (e : ℕ) → e ≡ indexIn EVENTS w₂ good
           → Visited t n (suc x) w (record { events = e; steps = p .steps }) w₂
       visit-ends l e at =
-          let place : getD (placesIn w₁ k) good 0 ≡ e = sym (at ∙ visit-place l) in
-          let cut = rw place at (thinned-take thinned good (rw (events-length w₁ k) l)) in
+          let index : getD (indicesIn w₁ k) good 0 ≡ e = sym (at ∙ visit-index l) in
+          let cut = rw index at (thinned-take thinned good (rw (events-length w₁ k) l)) in
           let below : e < m = omega (arith, cut .0, length-take m es, can .tried .most) in
           let runs : RunsHere (take e es) =
           rw (← take-take e m es (omega arith)) (thinned-run sys (cut .1) .1 run-good) in
@@ -264,7 +264,7 @@ module _ {t : topology.Topology} {n x : ℕ} {p : Progress} {w : List ℕ} (can 
               };
             }
 
-        -- All events have a run so far: the schedule gets the places of the log.
+        -- All events have a run so far: the schedule gets the indices of the log.
         module _ (all : n ≤ m) where
           everything : m ≡ length es
           everything = omega (arith, can .tried .most, size)
@@ -293,7 +293,7 @@ module _ {t : topology.Topology} {n x : ℕ} {p : Progress} {w : List ℕ} (can 
             gathered : Gathered sys es (suc x) (stepsAt STEPS more w₃)
             gathered =
                 let old = can .tried .steps everything .1 in
-                let added = retimed (placesIn w₁ k) (new .steps) in
+                let added = retimed (indicesIn w₁ k) (new .steps) in
                 let steps : stepsAt STEPS more w₃ ≡ stepsAt STEPS (p .steps) w ++ added =
                 ap (map stepOfWord) words ∙ map-append stepOfWord before (new .words)
                 ∙ ap (_++_ (stepsAt STEPS (p .steps) w)) (new .timed) in

@@ -1,7 +1,7 @@
 // The search over all locations, one after the other, each with only the events of the log that matter there.
 use entries::Site;
+use events::picking::index;
 use events::picking::pick_events;
-use events::picking::place;
 use events::retiming::retime;
 use model::Location;
 use model::Topology;
@@ -29,7 +29,7 @@ fn visit(w: &mut [u64], t: Topology, x: Location, all: usize, p: Progress) -> Pr
     let found = explain(w, site, count, p.steps);
     if found.events < count {
         return Progress {
-            events: place(&*w, found.events),
+            events: index(&*w, found.events),
             steps: p.steps,
         };
     }

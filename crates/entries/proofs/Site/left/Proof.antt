@@ -1,5 +1,5 @@
 -- `left` meets its contract.
-use mathlib.Core.Path.{_≡_, refl, sym, ap, _∙_}
+use mathlib.Core.Path.{_≡_, sym, ap, _∙_}
 use mathlib.Core.Bool.{Bool, _&&_}
 use Rattle.model.specs.Cxl0.{Crash, crashes}
 use Rattle.model.specs.OneLocation.{clearsSite}

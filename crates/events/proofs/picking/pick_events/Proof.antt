@@ -1,4 +1,4 @@
--- `events::picking::pick_events` meets its contract. The loop's invariant: events are picked up to a place.
+-- `events::picking::pick_events` meets its contract. The loop's invariant: events are picked up to an index.
 use Prim.Native.Nat.{_-_, _≤_, _<_}
 use native.Mathlib.Omega.{arith}
 use mathlib.Core.Path.{_≡_}
@@ -64,7 +64,7 @@ first-frame c =
     let frame = copied-frame (start .args .w .now) _ 0 (start .pre .0 .1 .room) (omega arith) in
     rw (c .pick-first .ensures .0) frame
 
--- The events of the log that is required are picked up to a place.
+-- The events of the log that is required are picked up to an index.
 turn : (h : tie.At-loop Inv-loop μ-loop)
     → let start : tie.Start Inv-loop μ-loop = entry (h .before .before .before .before) in
     UpTo (start .pre .0 .0) (start .args .x .0) (start .args .m) (h .loop .p) (h .loop .w)

@@ -49,7 +49,7 @@ returns-2 c =
     let s = f .before .before in
     let k = picks s in
     visit-ends (start k .pre) (k .pick-events .ensures) (here s) (describes s) (f .explain .ensures)
-    (h .if2 .taken) _ (c .place .ensures)
+    (h .if2 .taken) _ (c .index .ensures)
 
 returns-3 : tie.Need-returns-3
 returns-3 c =
