@@ -41,9 +41,6 @@ events h = h .before .before .before .before .args .events
 abbrev file : tie.At-loop Inv-loop μ-loop → List ℕ
 file h = now (h .before .before .before .before .args .file)
 
-says-allowed-requires : tie.Need-says-allowed-requires Inv-loop μ-loop
-says-allowed-requires c κs = search needs
-
 returns : tie.Need-returns Inv-loop μ-loop
 returns c =
     let a = c .before .before .before .args in
@@ -60,20 +57,11 @@ loop-holds c =
     let first = at-first (topologyOf (a .t)) (a .events) (now (a .file)) (says c) in
     (long-header (now (a .file)) (says c), omega arith, first)
 
-step-at-requires : tie.Need-step-at-requires Inv-loop μ-loop
-step-at-requires c κs = search needs
-
-enum-known-p : tie.Need-enum-known-p Inv-loop μ-loop
-enum-known-p c = search needs
-
 -- A step was found.
 step : (c : tie.After-p Inv-loop μ-loop)
     → stepAt (file (c .before .before .before .before)) (c .before .before .before .before .loop .at)
     ≡ some (stepOf (c .p .given .0 .0), c .p .given .0 .1 .0)
 step c = sym (c .before .before .step-at .ensures) ∙ ap stepAtOf (c .p .given .1)
-
-may-follow-requires : tie.Need-may-follow-requires Inv-loop μ-loop
-may-follow-requires c κs = search needs
 
 returns-2 : tie.Need-returns-2 Inv-loop μ-loop
 returns-2 c =
@@ -99,9 +87,6 @@ loop-again c =
     let next = follows (system h) (events h) (file h) (l .at) (l .least) (l .steps) (step d) may in
     (within (file h) (l .at) (step d), omega arith, l .inv .2 ∙ rw add-one next)
 
-enum-told : tie.Need-enum-told Inv-loop μ-loop
-enum-told c = search needs
-
 -- No step was found.
 nothing : (c : tie.After-enum-told Inv-loop μ-loop)
     → stepAt (file (c .before .before .before .before)) (c .before .before .before .before .loop .at) ≡ none
@@ -115,9 +100,6 @@ part-is-end-start c = omega arith
 
 part-is-end-end : tie.Need-part-is-end-end Inv-loop μ-loop
 part-is-end-end c = omega arith
-
-is-end-requires : tie.Need-is-end-requires Inv-loop μ-loop
-is-end-requires c κs = search needs
 
 returns-3 : tie.Need-returns-3 Inv-loop μ-loop
 returns-3 c =
@@ -152,21 +134,21 @@ read-schedule-spec =
     (tie.spec
     Inv-loop
     μ-loop
-    says-allowed-requires
+    (λ c κs. search needs)
     returns
     loop-holds
-    step-at-requires
-    enum-known-p
-    may-follow-requires
+    (λ c κs. search needs)
+    (λ c. search needs)
+    (λ c κs. search needs)
     returns-2
     add-steps
     loop-less
     loop-again
-    enum-told
+    (λ c. search needs)
     sub-is-end
     part-is-end-start
     part-is-end-end
-    is-end-requires
+    (λ c κs. search needs)
     returns-3
     returns-4
     returns-5)

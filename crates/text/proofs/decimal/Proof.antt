@@ -45,12 +45,6 @@ says : (c : tie.After-digit-value Inv-loop μ-loop)
     → c .digit-value .result ≡ digitValue (byte (c .before .before .before))
 says c = c .digit-value .ensures
 
-shared-slice-read-digit-value : tie.Need-shared-slice-read-digit-value Inv-loop μ-loop
-shared-slice-read-digit-value c = search needs
-
-digit-value-requires : tie.Need-digit-value-requires Inv-loop μ-loop
-digit-value-requires c κs = search needs
-
 returns : tie.Need-returns Inv-loop μ-loop
 returns c =
     let turn = c .before .before .before in
@@ -60,18 +54,6 @@ returns-2 : tie.Need-returns-2 Inv-loop μ-loop
 returns-2 c =
     let turn = c .before .before .before .before in
     sym (ahead turn ∙ no-room _ _ (byte (turn .before)) _ (c .if2 .taken))
-
-mul-value : tie.Need-mul-value Inv-loop μ-loop
-mul-value c = search needs
-
-add-value : tie.Need-add-value Inv-loop μ-loop
-add-value c = search needs
-
-add-from : tie.Need-add-from Inv-loop μ-loop
-add-from c = search needs
-
-loop-less : tie.Need-loop-less Inv-loop μ-loop
-loop-less c = search needs
 
 loop-again : tie.Need-loop-again Inv-loop μ-loop
 loop-again c =
@@ -94,13 +76,13 @@ decimal-spec =
     Inv-loop
     μ-loop
     loop-holds
-    shared-slice-read-digit-value
-    digit-value-requires
+    (λ c. search needs)
+    (λ c κs. search needs)
     returns
     returns-2
-    mul-value
-    add-value
-    add-from
-    loop-less
+    (λ c. search needs)
+    (λ c. search needs)
+    (λ c. search needs)
+    (λ c. search needs)
     loop-again
     returns-3)

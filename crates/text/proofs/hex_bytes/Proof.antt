@@ -56,26 +56,11 @@ first c =
     let (two, split) = first-byte (drop (h .loop .from) (text h)) (rw gave at (c .if1 .left)) in
     (omega (arith, length-drop (h .loop .from) (text h)), rw (gave, ← drop-drop) split)
 
-hex-pair-requires : tie.Need-hex-pair-requires Inv-loop μ-loop
-hex-pair-requires c κs = search needs
-
-same-length : tie.Need-same-length Inv-loop μ-loop
-same-length c = search needs
-
 returns : tie.Need-returns Inv-loop μ-loop
 returns c =
     let h = c .before .before .before in
     let none = no-byte _ (rw (c .before .hex-pair .ensures) at (c .if1 .taken)) in
     stop h (left-none _ _ _ _ _ (rw none at (h .loop .inv .3)))
-
-cast-out : tie.Need-cast-out Inv-loop μ-loop
-cast-out c = search needs
-
-slice-write-out : tie.Need-slice-write-out Inv-loop μ-loop
-slice-write-out c = search needs
-
-add-count : tie.Need-add-count Inv-loop μ-loop
-add-count c = search needs
 
 add-from : tie.Need-add-from Inv-loop μ-loop
 add-from c = omega (arith, first c .0)
@@ -89,9 +74,6 @@ loop-again c =
     let one = left-one _ _ _ _ _ _ _ (c .before .before .loop-test .taken) (rw (first c .1) at (h .loop .inv .3)) in
     (rw length-set (omega arith), rw length-set (omega arith), omega arith, one)
 
-same-length-2 : tie.Need-same-length-2 Inv-loop μ-loop
-same-length-2 c = search needs
-
 returns-2 : tie.Need-returns-2 Inv-loop μ-loop
 returns-2 c =
     let h = c .before in
@@ -104,14 +86,14 @@ hex-bytes-spec =
     Inv-loop
     μ-loop
     loop-holds
-    hex-pair-requires
-    same-length
+    (λ c κs. search needs)
+    (λ c. search needs)
     returns
-    cast-out
-    slice-write-out
-    add-count
+    (λ c. search needs)
+    (λ c. search needs)
+    (λ c. search needs)
     add-from
     loop-less
     loop-again
-    same-length-2
+    (λ c. search needs)
     returns-2)

@@ -67,9 +67,6 @@ has-waypoint-requires c κs =
     let at = c .before .before .before .before .before .before .before .before in
     waypoint-there (at .before .before .before .pre) (made (c .before)) (within (c .before))
 
-same-length : tie.Need-same-length Inv-loop μ-loop
-same-length c = search needs
-
 returns : tie.Need-returns Inv-loop μ-loop
 returns c =
     let step = c .before .before .before in
@@ -79,9 +76,6 @@ returns c =
 
 is-empty-requires : tie.Need-is-empty-requires Inv-loop μ-loop
 is-empty-requires c κs = tt
-
-same-length-2 : tie.Need-same-length-2 Inv-loop μ-loop
-same-length-2 c = search needs
 
 returns-2 : tie.Need-returns-2 Inv-loop μ-loop
 returns-2 c =
@@ -104,9 +98,6 @@ loop-again c =
     retracing-more (at .before .before .before .pre) (made step)
     (λ has. true≢false (sym (waypoint .has-waypoint .ensures .1 has) ∙ left))
 
-same-length-3 : tie.Need-same-length-3 Inv-loop μ-loop
-same-length-3 c = search needs
-
 returns-3 : tie.Need-returns-3 Inv-loop μ-loop
 returns-3 c =
     let at = c .before in
@@ -124,12 +115,12 @@ retrace-spec =
     sub-t
     step-back-requires
     has-waypoint-requires
-    same-length
+    (λ c. search needs)
     returns
     is-empty-requires
-    same-length-2
+    (λ c. search needs)
     returns-2
     loop-less
     loop-again
-    same-length-3
+    (λ c. search needs)
     returns-3)

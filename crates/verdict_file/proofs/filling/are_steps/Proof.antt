@@ -30,14 +30,8 @@ returns c =
 loop-holds : tie.Need-loop-holds Inv-loop μ-loop
 loop-holds c = (omega arith, refl)
 
-mul-word : tie.Need-mul-word Inv-loop μ-loop
-mul-word c = search needs
-
 shared-slice-read-word : tie.Need-shared-slice-read-word Inv-loop μ-loop
 shared-slice-read-word c = omega arith
-
-comes-next-requires : tie.Need-comes-next-requires Inv-loop μ-loop
-comes-next-requires c κs = search needs
 
 returns-2 : tie.Need-returns-2 Inv-loop μ-loop
 unfolding writable
@@ -91,9 +85,9 @@ are-steps-spec =
     μ-loop
     returns
     loop-holds
-    mul-word
+    (λ c. search needs)
     shared-slice-read-word
-    comes-next-requires
+    (λ c κs. search needs)
     returns-2
     add-i
     loop-less

@@ -50,9 +50,6 @@ loop-holds : tie.Need-loop-holds Inv-loop μ-loop
 unfolding stepFields
 loop-holds c = (omega arith, omega arith, refl, sym (put-none _ 5))
 
-mul-put-step : tie.Need-mul-put-step Inv-loop μ-loop
-mul-put-step c = search needs
-
 shared-slice-read-put-step : tie.Need-shared-slice-read-put-step Inv-loop μ-loop
 shared-slice-read-put-step c = omega arith
 
@@ -120,7 +117,7 @@ fill-allowed-spec =
     μ-loop
     put-header-requires
     loop-holds
-    mul-put-step
+    (λ c. search needs)
     shared-slice-read-put-step
     put-step-requires
     add-i
