@@ -29,9 +29,9 @@ module _ (w : List ℕ) (i a b : ℕ) where
       (only-set i to (set w i a) (i + 1) b (omega arith) (omega arith))
 
 -- The parts of a place's word.
-place-parts : (word c m end : ℕ) → c < 256 → m < U32 → word ≡ c + 256 * m + 256 * U32 * end
+waypoint-parts : (word c m end : ℕ) → c < 256 → m < U32 → word ≡ c + 256 * m + 256 * U32 * end
     → (word % 256 ≡ c) × (word / 256 % U32 ≡ m) × (word / (256 * U32) ≡ end)
-place-parts word c m end p q e = (omega arith, omega arith, omega arith)
+waypoint-parts word c m end p q e = (omega arith, omega arith, omega arith)
 
 module _ (w : List ℕ) (room : WORDS ≤ length w) where
   pub row-put : (t : ℕ) (row : Row) → t ≤ MOST → row .value < U32
@@ -70,7 +70,7 @@ module _ (w : List ℕ) (room : WORDS ≤ length w) where
       let at = WAYPOINTS + t in
       let word = p .code + 256 * p .memory + 256 * U32 * p .end in
       let read = getD-set-same w at word 0 (omega arith) in
-      let parts = place-parts (getD (set w at word) at 0) (p .code) (p .memory) (p .end) c m read in
+      let parts = waypoint-parts (getD (set w at word) at 0) (p .code) (p .memory) (p .end) c m read in
       record {
         frame = only-set at (at + 1) w at word (omega arith) (omega arith);
         stored = λ k. record { code = parts .0 k; memory = parts .1 k; end = parts .2 k };
