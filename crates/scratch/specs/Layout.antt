@@ -5,7 +5,7 @@ use mathlib.Core.Path.{_≡_}
 use mathlib.Core.List.{List}
 use lib.ListN.{length, take, drop}
 
--- The fewest words of a scratch area, the most events that it holds, a log's 128 and one to spare, and the most steps
+-- The fewest words of a scratch area, the most events that it holds, a log's 128 and one more, and the most steps
 -- of a schedule, two for each event.
 abbrev pub WORDS : ℕ
 WORDS = 4096
