@@ -25,7 +25,7 @@ try() {
 }
 
 builds_without_warnings() {
-    cargo build -j1 --release --all-targets 2>&1 | tee "$work/build"
+    cargo build --release --all-targets 2>&1 | tee "$work/build"
     [ "${PIPESTATUS[0]}" -eq 0 ] && ! grep -q '^warning' "$work/build"
 }
 
@@ -68,7 +68,7 @@ try "the proved library" proved_library
 try "the verdict program" verdict_program
 try "format" cargo fmt --check
 try "build without warnings" builds_without_warnings
-try "tests" cargo test -q -j1
+try "tests" cargo test -q
 try "examples: both judges" target/release/compare examples ../examples
 try "examples: stored outputs" examples_print ../target/bin/verdict
 try "the verdict script" verdict_script
