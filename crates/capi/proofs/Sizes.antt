@@ -14,7 +14,7 @@ use Rattle.replay.proofs.Demand2.{yes-few}
 use Rattle.judge.specs.Judging.{Outcome, refusal, told, verdict, areasFit, Right, JudgesLog, Judges}
 use Rattle.capi.specs.Packing.{RecordedFits, JudgedFits}
 
--- A new count of used bytes is at most 1,160, so it fits 32 bits.
+-- A new count of used bytes is within the longest log, so it fits 32 bits.
 pub recorded-fits : (buf : List ℕ) (used tag : ℕ) (p : List ℕ) (a : Recorded) → a ≡ recorded buf used tag p
     → RecordedFits a
 recorded-fits buf used tag p (count n) e = omega (arith, count-most buf used tag p n (sym e))

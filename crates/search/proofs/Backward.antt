@@ -16,7 +16,7 @@ use Rattle.rows.specs.Steps.{Stepped}
 use Rattle.rows.proofs.Rows.{last-right, last-closed}
 use Rattle.scratch.specs.Layout.{ROWS, STEPS, MOST}
 use Rattle.scratch.specs.Words.{U32, eventIn, eventsIn, rowIn, copyIn, RowPut}
-use Rattle.walking.specs.Passes.{Copies, Answers, Ready, Steppable, OnlyRows}
+use Rattle.walking.specs.StepsBack.{Copies, Answers, Ready, Steppable, OnlyRows}
 use Rattle.scratch.proofs.Frames.{only-none, only-then, only-wider, getD-below, getD-above}
 use Rattle.scratch.proofs.Events.{struct-same, event-same, events-drop, events-drop-all, copies-suc}
 

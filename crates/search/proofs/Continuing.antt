@@ -20,7 +20,7 @@ use Rattle.rows.proofs.RowSteps.{begins}
 use Rattle.scratch.specs.declared.Waypoint.{Waypoint}
 use Rattle.scratch.specs.Layout.{ROWS, STEPS, WAYPOINTS, LOG, MOST, OnlyIn}
 use Rattle.scratch.specs.Words.{eventIn, eventsFrom, eventsIn, copyIn, waypointIn, structIn, CopyPut, WaypointPut}
-use Rattle.walking.specs.Passes.{Copies, Ready}
+use Rattle.walking.specs.StepsBack.{Copies, Ready}
 use Rattle.walking.specs.Acting.{Acts}
 use Rattle.walking.specs.Trails.{RunsTo}
 use Rattle.scratch.proofs.Frames.{only-then, only-wider, getD-below}

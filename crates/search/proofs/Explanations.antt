@@ -16,7 +16,7 @@ use Rattle.rows.specs.Sites.{Describes, copyFrom}
 use Rattle.scratch.specs.declared.Waypoint.{Waypoint}
 use Rattle.scratch.specs.Layout.{ROWS, STEPS, MOST, MOST-STEPS, OnlyIn}
 use Rattle.scratch.specs.Words.{eventsFrom, eventsIn, copyIn, CopyPut}
-use Rattle.walking.specs.Passes.{Copies, Fits}
+use Rattle.walking.specs.StepsBack.{Copies, Fits}
 use Rattle.scratch.proofs.Frames.{only-wider}
 use Rattle.search.specs.declared.explaining.Onward.{Onward}
 use Rattle.search.specs.Paths.{Leading, Path, start, Based, Kept, Continuable, Onwards}

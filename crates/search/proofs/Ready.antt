@@ -3,7 +3,7 @@ use Prim.Native.Nat.{ℕ}
 use native.Mathlib.Omega.{arith}
 use mathlib.Core.List.{List}
 use Rattle.entries.specs.declared.Site.{Site}
-use Rattle.walking.specs.Passes.{Ready, OnlyRows}
+use Rattle.walking.specs.StepsBack.{Ready, OnlyRows}
 use Rattle.scratch.proofs.Events.{struct-same, events-same}
 
 pub ready-kept : {s : Site} {m : ℕ} {w w' : List ℕ} → Ready s m w → OnlyRows w w' → Ready s m w'

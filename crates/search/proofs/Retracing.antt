@@ -19,7 +19,7 @@ use Rattle.rows.specs.Sites.{Describes, copyAfter}
 use Rattle.rows.proofs.RowSteps.{next-copy, next-fits, owner-six}
 use Rattle.scratch.specs.Layout.{ROWS, STEPS, WAYPOINTS, WORDS, MOST, OnlyIn}
 use Rattle.scratch.specs.Words.{eventIn, eventsIn, copyIn, waypointIn, RowPut}
-use Rattle.walking.specs.Passes.{OnlyRows}
+use Rattle.walking.specs.StepsBack.{OnlyRows}
 use Rattle.scratch.proofs.Frames.{getD-above}
 use Rattle.scratch.proofs.Events.{known-machine, events-same, events-drop}
 use Rattle.search.specs.Paths.{Retraceable, Retraced, RunsFrom}

@@ -17,7 +17,7 @@ use Rattle.rows.specs.Sites.{Known, Describes, copyFrom}
 use Rattle.scratch.specs.declared.Waypoint.{Waypoint}
 use Rattle.scratch.specs.Layout.{ROWS, STEPS, SORTED, LOG, WORDS, MOST, MOST-STEPS, OnlyIn}
 use Rattle.scratch.specs.Words.{eventsIn, rowIn, copyIn, waypointIn, structIn, wordsAt}
-use Rattle.walking.specs.Passes.{Copies, Answers, Fits, Ready, OnlyRows}
+use Rattle.walking.specs.StepsBack.{Copies, Answers, Fits, Ready, OnlyRows}
 use Rattle.walking.specs.Trails.{RunsTo}
 use Rattle.walking.specs.Walks.{Placed, Schedules}
 use Rattle.search.specs.declared.explaining.Onward.{Onward}

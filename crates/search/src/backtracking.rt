@@ -21,7 +21,7 @@ ghost use Rattle.rows.specs.Rows.{Fine};
 ghost use Rattle.rows.specs.Steps.{Stepped};
 ghost use Rattle.scratch.specs.Words.{eventIn, copyIn, waypointIn};
 ghost use Rattle.scratch.specs.Layout.{WORDS, MOST};
-ghost use Rattle.walking.specs.Passes.{Steppable};
+ghost use Rattle.walking.specs.StepsBack.{Steppable};
 ghost use Rattle.search.specs.Paths.{Retraceable, Retraced};
 
 // The row before event t, when `rest` is the row after it.

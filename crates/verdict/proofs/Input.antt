@@ -1,4 +1,4 @@
--- The first 1,161 bytes of an input decide what the judge makes of it.
+-- One byte more than the longest log has decides what the judge makes of an input.
 use Prim.Native.Nat.{ℕ, _<_}
 use mathlib.Core.Path.{_≡_, refl, _∙_}
 use mathlib.Core.Bool.{Bool, true, false}

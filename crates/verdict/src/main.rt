@@ -12,8 +12,8 @@ use schedules::step_at;
 use scratch::WORDS;
 use verdict_file::FILE_MOST;
 
-// The most bytes that are read. An accepted log has at most 1,160 bytes, and what the judge makes of the first
-// 1,161 bytes of an input is right for the whole input, as proofs/Input.antt shows.
+// The most bytes that are read, one more than the longest log has: what the judge makes of them is right for the whole
+// input, as proofs/Input.antt shows.
 const INPUT_MOST: usize = LOG_MOST + 1;
 
 // Enough for the first line, 256 lines of at most 9 bytes, and the last.

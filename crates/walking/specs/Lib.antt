@@ -1,4 +1,4 @@
-pub mod Passes
+pub mod StepsBack
 pub mod Trails
 pub mod Acting
 pub mod Walks

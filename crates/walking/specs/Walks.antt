@@ -19,7 +19,7 @@ use Rattle.scratch.specs.declared.Waypoint.{Waypoint}
 use Rattle.scratch.specs.Words.{eventIn, rowIn, copyIn}
 use Rattle.scratch.specs.Layout.{WORDS}
 use Rattle.scratch.specs.Stored.{Stored}
-use Rattle.walking.specs.Passes.{Steppable}
+use Rattle.walking.specs.StepsBack.{Steppable}
 use Rattle.walking.specs.Trails.{Trail, stepAt, wordOf, RunsTo}
 
 -- The words of steps of the site after t events by these machines are stored from `place` on.
