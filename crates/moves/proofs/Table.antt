@@ -1,8 +1,8 @@
--- The move table: its numbers, and the test that they pass. How they are computed is of no account: all that
--- is shown of them rests on the test.
+-- The move table: its numbers, and the tests that they pass. How they are computed is of no account: all that
+-- is shown of them rests on the tests.
 use Prim.Native.Nat.{ℕ, zero, suc, _+_, _*_, _-_, _/_, _%_, _^_}
 use mathlib.Core.Path.{_≡_, refl}
-use mathlib.Core.Bool.{Bool, cond, not, _||_}
+use mathlib.Core.Bool.{Bool, cond, not, _&&_, _||_}
 use mathlib.Core.List.{List, [], _∷_}
 use lib.Dec.{T, eqb, ltb}
 use lib.Bits.{bitOr}
@@ -11,7 +11,10 @@ use Rattle.model.specs.Cxl0.{Machine, everyMachine}
 use Rattle.model.specs.Sharers.{has, insert, remove}
 use Rattle.model.specs.OneLocation.{moved}
 use Rattle.model.proofs.SomeSilent.{movable}
-use Rattle.masks.proofs.Constants.{every}
+use Rattle.masks.proofs.Constants.{every, tells}
+use Rattle.moves.specs.Exchange.{put, exchange}
+use Rattle.moves.proofs.Everywhere.{everywhere}
+use Rattle.moves.proofs.Swaps.{swap, rises, distance}
 use Rattle.moves.proofs.Unions.{union}
 
 -- 2 ^ t, added up over the codes t that c becomes if machines n to 1 in turn stay or, where they can, move.
@@ -33,33 +36,64 @@ table = entries 384 0
 abbrev pub at : List ℕ → Machine → ℕ → ℕ
 at numbers k c = getD numbers ((k - 1) * 64 + c) 0
 
--- The number that a move of machine i leads to, or 0 where i cannot move.
-abbrev pub ahead : List ℕ → Machine → ℕ → Machine → ℕ
-ahead numbers k c i = cond (movable k i c) (at numbers k (moved k i c)) 0
-
--- The rule of the table: a number is the union of its own code and the numbers one move ahead.
-unfoldable pub closed : List ℕ → Machine → ℕ → Bool
-closed numbers k c = eqb (at numbers k c) (bitOr (2 ^ c) (union 6 (ahead numbers k c)))
-
--- Moves come to an end: each makes the code without its owner less.
-unfoldable pub falls : Machine → ℕ → Machine → Bool
-falls k c i = not (movable k i c) || ltb (remove k (moved k i c)) (remove k c)
-
--- A test is passed for every owner and every code.
-abbrev pub everywhere : (Machine → ℕ → Bool) → Bool
-everywhere test = everyMachine 6 (λ k. every 64 (test k))
-
--- The 384 numbers follow the rule.
-pub all-closed : T (everywhere (closed table))
-unfolding everyMachine every closed union table entries number moved has insert remove
-all-closed = tt
-
-pub all-fall : T (everywhere (λ k c. everyMachine 6 (falls k c)))
-unfolding everyMachine every falls moved has insert remove
-all-fall = tt
-
 -- The four numbers that document 01 names: owner 2, code 1; owner 1, codes 3 and 6; code 0 for every owner.
 pub checks : (at table 2 1 ≡ 6) × (at table 1 3 ≡ 10) × (at table 1 6 ≡ 106)
     × T (everyMachine 6 (λ k. eqb (at table k 0) 1))
 unfolding everyMachine table entries number moved has insert remove
 checks = (refl, refl, refl, tt)
+
+-- ---- owner 1
+
+-- The numbers of owner 1, which the code keeps, and the one for code c.
+unfoldable pub kept : List ℕ
+kept = entries 64 0
+
+abbrev pub entry : ℕ → ℕ
+entry c = getD kept c 0
+
+-- The number that a move of machine i leads to, or 0 where i cannot move.
+abbrev pub ahead : ℕ → Machine → ℕ
+ahead c i = cond (movable 1 i c) (entry (moved 1 i c)) 0
+
+-- The rule of the table: a number is the union of its own code and the numbers one move ahead.
+unfoldable pub closed : ℕ → Bool
+closed c = eqb (entry c) (bitOr (2 ^ c) (union 6 (ahead c)))
+
+-- Moves come to an end: each makes the code without its owner less.
+unfoldable pub falls : ℕ → Machine → Bool
+falls c i = not (movable 1 i c) || ltb (remove 1 (moved 1 i c)) (remove 1 c)
+
+-- The 64 numbers follow the rule.
+pub all-closed : T (every 64 closed)
+unfolding everyMachine every closed union kept entries number moved has insert remove
+all-closed = tt
+
+pub all-fall : T (every 64 (λ c. everyMachine 6 (falls c)))
+unfolding everyMachine every falls moved has insert remove
+all-fall = tt
+
+-- ---- every owner
+
+-- The codes that rise where machines 1 and k are exchanged, as masks: for k from 1 to 6, and for one k.
+unfoldable pub risers : List ℕ
+risers =
+    0 ∷ 0x2222_2222_2222_2222 ∷ 0x0a0a_0a0a_0a0a_0a0a ∷ 0x00aa_00aa_00aa_00aa ∷ 0x0000_aaaa_0000_aaaa
+    ∷ 0x0000_0000_aaaa_aaaa ∷ []
+
+abbrev pub low : Machine → ℕ
+low k = getD risers (k - 1) 0
+
+pub all-rise : T (everywhere (λ k. tells (low k) (rises k)))
+unfolding everyMachine every risers has
+all-rise = tt
+
+-- A number is owner 1's for the exchanged code, exchanged back, and has no more than 64 bits.
+unfoldable pub follows : Machine → ℕ → Bool
+follows k c =
+    let back = swap 64 (low k) (distance k) (entry (exchange k c)) in
+    eqb (at table k c) back && ltb back (2 ^ 64)
+
+-- The 384 numbers are those that the 64 give.
+pub all-follow : T (everywhere follows)
+unfolding everyMachine every follows risers kept table entries number moved exchange put has insert remove
+all-follow = tt
