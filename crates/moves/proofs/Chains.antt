@@ -13,10 +13,10 @@ use Rattle.model.specs.OneLocation.{moved, Moves, stay, move}
 use Rattle.model.proofs.Tests.{and-r, or-cases}
 use Rattle.model.proofs.Machines.{every-e as every-machine}
 use Rattle.model.proofs.Sharers.{has-bound}
-use Rattle.model.proofs.SilentSteps.{moved-bound}
 use Rattle.model.proofs.SomeSilent.{movable}
 use Rattle.masks.specs.Sets.{In, OneToSix}
 use Rattle.masks.proofs.Sets.{in-or}
+use Rattle.masks.proofs.Codes.{moved-fits}
 use Rattle.masks.proofs.Constants.{every-e}
 use Rattle.moves.proofs.Unions.{in-if, in-power, union, union-e, union-i}
 use Rattle.moves.proofs.Table.{entry, ahead, closed, all-closed, falls, all-fall}
@@ -33,9 +33,6 @@ module _ (c : ℕ) (b : c < 64) where
   -- A machine that can move is one of the six.
   mover : (i : Machine) → T (movable 1 i c) → OneToSix i
   mover i q = has-bound 6 i c b (and-r (not (eqb i 1)) (has i c) q)
-
-  moved-fits : (i : Machine) → moved 1 i c < 64
-  moved-fits i = moved-bound 6 1 i c (omega arith) (omega arith) b
 
   less : (i : Machine) → T (movable 1 i c) → remove 1 (moved 1 i c) < remove 1 c
   unfolding falls
@@ -78,13 +75,13 @@ sound (suc f) c t u b p =
     (λ a.
     let i = a .0 in
     let v = less c b i (a .1 .0) in
-    move i (a .1 .0) (sound f (moved 1 i c) t (omega arith) (moved-fits c b i) (a .1 .1)))
+    move i (a .1 .0) (sound f (moved 1 i c) t (omega arith) (moved-fits 1 i c (omega arith) b) (a .1 .1)))
     (step c b t .0 p)
 
 -- Every code that a chain of moves reaches is in the number.
 complete : {c t : ℕ} → c < 64 → Moves 1 c t → In t (entry c)
 complete b (stay {c}) = step c b c .1 (inl refl)
-complete {t} b (move {c} i q r) = step c b t .1 (inr (i, (q, complete (moved-fits c b i) r)))
+complete {t} b (move {c} i q r) = step c b t .1 (inr (i, (q, complete (moved-fits 1 i c (omega arith) b) r)))
 
 pub chains : (c t : ℕ) → c < 64 → In t (entry c) ↔ Moves 1 c t
 chains c t b = (sound (suc (remove 1 c)) c t (omega arith) b, complete b)
