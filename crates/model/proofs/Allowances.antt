@@ -8,7 +8,7 @@ use mathlib.Core.Bool.{Bool, true, false, cond}
 use mathlib.Core.List.{List, [], _∷_}
 use lib.Dec.{ltb, ltb→lt, nltb→le}
 use lib.ListN.{length}
-use Rattle.model.specs.Cxl0.{Location, Event, LStore, RStore, MStore, Load, LFlush, RFlush, Crash}
+use Rattle.model.specs.Cxl0.{Location, Event, LStore, RStore, MStore, Load, LFlush, RFlush, Crash, RMW}
 use Rattle.model.specs.Cxl0.{event, count, isStore, isLoad}
 use Rattle.model.specs.OneLocation.{eventAt}
 use Rattle.model.proofs.Tests.{by-test, not→false, ne→test}
@@ -33,6 +33,7 @@ gain-few (Load i z v) = omega arith
 gain-few (LFlush i z) = omega arith
 gain-few (RFlush i z) = omega arith
 gain-few (Crash i) = omega arith
+gain-few (RMW form i z v w) = omega arith
 
 cond-le : (b : Bool) (k : ℕ) → cond b k 0 ≤ k
 cond-le true k = omega arith

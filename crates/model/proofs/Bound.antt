@@ -9,7 +9,7 @@ use mathlib.Core.List.{List, [], _∷_}
 use lib.Dec.{T, eqb, eqb-refl, ltb→lt, lt→ltb}
 use lib.ListN.{length}
 use Rattle.model.specs.Cxl0.{Location, Topology, WellFormed, isMachine, isLocation, named, allNamed}
-use Rattle.model.specs.Cxl0.{LStore, RStore, MStore, Load, LFlush, RFlush, Crash, Propagate, WriteBack}
+use Rattle.model.specs.Cxl0.{LStore, RStore, MStore, Load, LFlush, RFlush, Crash, RMW, Propagate, WriteBack}
 use Rattle.model.specs.Cxl0.{Event, Action, event, silent, Run, events, silents, count, isStore, isLoad}
 use Rattle.model.specs.OneLocation.{Local, silentAt, concerns}
 use Rattle.model.specs.OneLocation.{possibleAt, nextAt, startAt, runsAt}
@@ -139,6 +139,7 @@ budget-le (Load i x v ∷ es) = omega (arith, budget-le es)
 budget-le (LFlush i x ∷ es) = omega (arith, budget-le es)
 budget-le (RFlush i x ∷ es) = omega (arith, budget-le es)
 budget-le (Crash i ∷ es) = omega (arith, budget-le es)
+budget-le (RMW form i x v w ∷ es) = omega (arith, budget-le es)
 
 -- A run of a log, which has at most 128 events, has at most 256 silent steps.
 pub bound-256 : (sys : Topology) → WellFormed sys → (acts : List Action) → Run sys acts

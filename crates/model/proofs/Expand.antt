@@ -10,15 +10,17 @@ use lib.Dec.{T, leb, eqb, eqb→eq, eqb-refl, leb→le}
 use lib.Pow.{pow-pos}
 use Rattle.model.specs.Cxl0.{Machine, Location, Value, Topology, isMachine, isLocation, owner, initial}
 use Rattle.model.specs.Cxl0.{WellFormed, start, holds, agrees, someMachine, everyMachine, cached}
-use Rattle.model.specs.Cxl0.{LStore, RStore, MStore, Load, LFlush, RFlush, Crash, Propagate, WriteBack}
+use Rattle.model.specs.Cxl0.{LStore, RStore, MStore, Load, LFlush, RFlush, Crash, RMW, Form, L, R, M}
+use Rattle.model.specs.Cxl0.{Propagate, WriteBack, readable, stored, loaded}
 use Rattle.model.specs.Cxl0.{Action, event, silent, crashes, clears, named, enabled, possible, next, runs}
 use Rattle.model.specs.Sharers.{has, insert, remove}
 use Rattle.model.specs.OneLocation.{Local, expand, concerns, eventAt, silentAt, enabledAt, locationOf, siteOf}
-use Rattle.model.specs.OneLocation.{moved, effect, nextAt, startAt}
+use Rattle.model.specs.OneLocation.{readableAt, moved, storedAt, loadedAt, effect, nextAt, startAt}
 use Rattle.model.proofs.Tests.{by-test, T→true, not→false, and-l, and-r, ne-test, same-test}
 use Rattle.model.proofs.Machines.{every-e, every-i}
 use Rattle.model.proofs.Sharers.{has-insert, has-remove, has-none, insert-bound, remove-le, member}
 use Rattle.model.proofs.Sharers.{some-has}
+use Rattle.model.proofs.ReadModifyWrites.{store-settles, settles-at}
 
 -- Each code is that of a set of machines of the system.
 abbrev pub InRange : Topology → (Location → Local) → Type 0
@@ -55,11 +57,11 @@ every-agrees n s v h t =
     rw (T→true {b = has (suc (m .0)) (s .code)} (m .2)) at agree)
     (λ a. every-i n (λ j. agrees v (shown j s)) (λ j l k. agrees-shown (has j (s .code)) (s .copy) v a))
 
-load-enabled : (sys : Topology) (f : Location → Local) → InRange sys f
-    → (i : Machine) (x : Location) (v : Value)
-    → enabled sys (event (Load i x v)) (expand f) ≡ enabledAt (siteOf sys x) (event (Load i x v)) (f x)
-unfolding enabled enabledAt expand
-load-enabled sys f r i x v =
+-- What a load asks of the caches and of memory, it asks of the short form.
+readable-expand : (sys : Topology) (f : Location → Local) → InRange sys f → (x : Location) (v : Value)
+    → readable sys x v (expand f) ≡ readableAt v (f x)
+unfolding expand
+readable-expand sys f r x v =
     rw (cached-expand sys f r x)
     (by-test (eqb (f x .code) 0)
     (λ t. rw (T→true {b = eqb (f x .code) 0} t))
@@ -72,12 +74,13 @@ unfolding enabled enabledAt siteOf expand concerns eventAt locationOf silentAt
 enabled-expand sys f r (event (LStore i y v)) x t = refl
 enabled-expand sys f r (event (RStore i y v)) x t = refl
 enabled-expand sys f r (event (MStore i y v)) x t = refl
-enabled-expand sys f r (event (Load i y v)) x t = rw (eqb→eq x y t) (load-enabled sys f r i y v)
+enabled-expand sys f r (event (Load i y v)) x t = rw (eqb→eq x y t) (readable-expand sys f r y v)
 enabled-expand sys f r (event (LFlush i y)) x t =
     rw (eqb→eq x y t) (ap not (holds-shown (has i (f y .code)) (f y .copy)))
 enabled-expand sys f r (event (RFlush i y)) x t =
     rw (eqb→eq x y t, cached-expand sys f r y) (Bool·not-not (eqb (f y .code) 0))
 enabled-expand sys f r (event (Crash i)) x t = refl
+enabled-expand sys f r (event (RMW form i y v w)) x t = rw (eqb→eq x y t) (readable-expand sys f r y v)
 enabled-expand sys f r (silent (Propagate i y)) x t =
     rw (eqb→eq x y t) (ap (λ b. not (eqb i (owner sys y)) && b) (holds-shown (has i (f y .code)) (f y .copy)))
 enabled-expand sys f r (silent (WriteBack y)) x t =
@@ -181,22 +184,34 @@ load-cache sys f r i x v l h j y =
     rw copies
     (place (shown j) (eqb y x) _ (f y) _ (λ t. rw (eqb→eq y x t, copies) (also-shown i j (f x) v l value)))))
 
+-- After a store the short forms show what the caches hold.
+store-cache : (sys : Topology) (f : Location → Local) → WellFormed sys → (form : Form)
+    → (i : Machine) (x : Location) (v : Value) → T (isMachine sys i && isLocation sys x) → (j : Machine) (y : Location)
+    → stored sys form i x v (expand f) .cache j y
+    ≡ shown j (cond (eqb y x) (storedAt (siteOf sys y) form i v (f y)) (f y))
+unfolding siteOf expand
+store-cache sys f w L i x v n j y =
+    place (shown j) (eqb y x) _ (f y) _ (λ t. one-shown i j v (by-bounds sys i x n .0))
+store-cache sys f w R i x v n j y =
+    place (shown j) (eqb y x) _ (f y) _
+    (λ t. rw (eqb→eq y x t) (one-shown (owner sys x) j v (owner-bounds sys w i x n .0)))
+store-cache sys f w M i x v n j y = place (shown j) (eqb y x) _ (f y) _ (λ t. rw (has-none j))
+
 -- After an action the short forms show what the caches hold.
 next-cache : (sys : Topology) (f : Location → Local) → WellFormed sys → InRange sys f → (a : Action)
     → T (named sys a) → Here sys f a → (j : Machine) (y : Location)
     → next sys a (expand f) .cache j y ≡ shown j (nextAt sys y a (f y))
 unfolding named next nextAt siteOf expand concerns eventAt locationOf silentAt effect crashes enabledAt
-next-cache sys f w r (event (LStore i x v)) n h j y =
-    place (shown j) (eqb y x) _ (f y) _ (λ t. one-shown i j v (by-bounds sys i x n .0))
-next-cache sys f w r (event (RStore i x v)) n h j y =
-    place (shown j) (eqb y x) _ (f y) _
-    (λ t. rw (eqb→eq y x t) (one-shown (owner sys x) j v (owner-bounds sys w i x n .0)))
-next-cache sys f w r (event (MStore i x v)) n h j y =
-    place (shown j) (eqb y x) _ (f y) _ (λ t. rw (has-none j))
+next-cache sys f w r (event (LStore i x v)) n h j y = store-cache sys f w L i x v n j y
+next-cache sys f w r (event (RStore i x v)) n h j y = store-cache sys f w R i x v n j y
+next-cache sys f w r (event (MStore i x v)) n h j y = store-cache sys f w M i x v n j y
 next-cache sys f w r (event (Load i x v)) n h j y = load-cache sys f r i x v (by-bounds sys i x n .0) h j y
 next-cache sys f w r (event (LFlush i x)) n h j y = kept (shown j) (eqb y x) (f y) (f y) (λ t. refl)
 next-cache sys f w r (event (RFlush i x)) n h j y = kept (shown j) (eqb y x) (f y) (f y) (λ t. refl)
 next-cache sys f w r (event (Crash i)) n h j y = less-shown i j (f y)
+next-cache sys f w r (event (RMW form i x v u)) n h j y =
+    rw (store-settles sys i x v (expand f) form u, settles-at (siteOf sys y) form i u (f y))
+    (store-cache sys f w form i x u n j y)
 next-cache sys f w r (silent (Propagate i x)) n h j y =
     let l = owner-bounds sys w i x n .0 in
     place (shown j) (eqb y x) _ (f y) _
@@ -207,19 +222,32 @@ next-cache sys f w r (silent (WriteBack x)) n h j y =
 memory-of : Local → Value
 memory-of s = s .memory
 
+-- After a store the short forms show what the memories hold.
+store-memory : (sys : Topology) (f : Location → Local) (form : Form) (i : Machine) (x : Location) (v : Value)
+    → (y : Location)
+    → stored sys form i x v (expand f) .memory y
+    ≡ cond (eqb y x) (storedAt (siteOf sys y) form i v (f y)) (f y) .memory
+unfolding expand memory-of
+store-memory sys f L i x v y = kept memory-of (eqb y x) (f y) _ (λ t. refl)
+store-memory sys f R i x v y = kept memory-of (eqb y x) (f y) _ (λ t. refl)
+store-memory sys f M i x v y = place memory-of (eqb y x) v (f y) _ (λ t. refl)
+
 -- After an action the short forms show what the memories hold.
 next-memory : (sys : Topology) (f : Location → Local) (a : Action) → Here sys f a → (y : Location)
     → next sys a (expand f) .memory y ≡ nextAt sys y a (f y) .memory
 unfolding next nextAt siteOf expand concerns eventAt locationOf silentAt effect enabledAt memory-of clears
-next-memory sys f (event (LStore i x v)) h y = kept memory-of (eqb y x) (f y) _ (λ t. refl)
-next-memory sys f (event (RStore i x v)) h y = kept memory-of (eqb y x) (f y) _ (λ t. refl)
-next-memory sys f (event (MStore i x v)) h y = place memory-of (eqb y x) v (f y) _ (λ t. refl)
+next-memory sys f (event (LStore i x v)) h y = store-memory sys f L i x v y
+next-memory sys f (event (RStore i x v)) h y = store-memory sys f R i x v y
+next-memory sys f (event (MStore i x v)) h y = store-memory sys f M i x v y
 next-memory sys f (event (Load i x v)) h y =
     sym (kept (λ s. s .memory y) (cached sys (expand f) x) (expand f) _ (λ t. refl))
     ∙ kept memory-of (eqb y x) (f y) _ (λ t. refl)
 next-memory sys f (event (LFlush i x)) h y = kept memory-of (eqb y x) (f y) (f y) (λ t. refl)
 next-memory sys f (event (RFlush i x)) h y = kept memory-of (eqb y x) (f y) (f y) (λ t. refl)
 next-memory sys f (event (Crash i)) h y = refl
+next-memory sys f (event (RMW form i x v w)) h y =
+    rw (store-settles sys i x v (expand f) form w, settles-at (siteOf sys y) form i w (f y))
+    (store-memory sys f form i x w y)
 next-memory sys f (silent (Propagate i x)) h y = kept memory-of (eqb y x) (f y) _ (λ t. refl)
 next-memory sys f (silent (WriteBack x)) h y =
     place memory-of (eqb y x) _ (f y) _
@@ -268,15 +296,23 @@ pub branch {ℓ κ} : {A : Type ℓ} (P : A → Type κ) (b : Bool) (s t : A)
 branch P true s t f g = f tt
 branch P false s t f g = g tt
 
+store-bound : (sys : Topology) (x : Location) (form : Form) (i : Machine) (v : Value) (s : Local)
+    → (1 ≤ i) × (i ≤ sys .machines) → (1 ≤ owner sys x) × (owner sys x ≤ sys .machines)
+    → storedAt (siteOf sys x) form i v s .code < 2 ^ sys .machines
+unfolding siteOf
+store-bound sys x L i v s b o = insert-bound-of (sys .machines) i 0 b (pow-pos (sys .machines))
+store-bound sys x R i v s b o = insert-bound-of (sys .machines) (owner sys x) 0 o (pow-pos (sys .machines))
+store-bound sys x M i v s b o = pow-pos (sys .machines)
+
 effect-bound : (sys : Topology) (x : Location) → WellFormed sys → (a : Action) (s : Local) → T (named sys a)
     → T (concerns x a) → s .code < 2 ^ sys .machines → effect (siteOf sys x) a s .code < 2 ^ sys .machines
 unfolding named concerns eventAt locationOf silentAt effect siteOf moved
 effect-bound sys x w (event (LStore i y v)) s n t h =
-    insert-bound-of (sys .machines) i 0 (by-bounds sys i y n) (pow-pos (sys .machines))
+    store-bound sys x L i v s (by-bounds sys i y n) (rw (eqb→eq x y t) (owner-bounds sys w i y n))
 effect-bound sys x w (event (RStore i y v)) s n t h =
-    rw (eqb→eq x y t)
-    (insert-bound-of (sys .machines) (owner sys y) 0 (owner-bounds sys w i y n) (pow-pos (sys .machines)))
-effect-bound sys x w (event (MStore i y v)) s n t h = pow-pos (sys .machines)
+    store-bound sys x R i v s (by-bounds sys i y n) (rw (eqb→eq x y t) (owner-bounds sys w i y n))
+effect-bound sys x w (event (MStore i y v)) s n t h =
+    store-bound sys x M i v s (by-bounds sys i y n) (rw (eqb→eq x y t) (owner-bounds sys w i y n))
 effect-bound sys x w (event (Load i y v)) s n t h =
     branch (λ c. c < 2 ^ sys .machines) (eqb (s .code) 0) 0 (insert i (s .code))
     (λ z. pow-pos (sys .machines))
@@ -284,6 +320,8 @@ effect-bound sys x w (event (Load i y v)) s n t h =
 effect-bound sys x w (event (LFlush i y)) s n t h = h
 effect-bound sys x w (event (RFlush i y)) s n t h = h
 effect-bound sys x w (event (Crash i)) s n t h = omega (arith, remove-le i (s .code))
+effect-bound sys x w (event (RMW form i y v u)) s n t h =
+    store-bound sys x form i u (loadedAt i s) (by-bounds sys i y n) (rw (eqb→eq x y t) (owner-bounds sys w i y n))
 effect-bound sys x w (silent (Propagate i y)) s n t h =
     let less : remove i (s .code) < 2 ^ sys .machines = omega (arith, remove-le i (s .code)) in
     rw (eqb→eq x y t)

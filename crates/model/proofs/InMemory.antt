@@ -9,7 +9,8 @@ use mathlib.Core.Option.{Option, none}
 use lib.Dec.{T, T-not, eqb, eqb→eq}
 use Rattle.model.specs.Cxl0.{Machine, Location, Value, Topology, isMachine, isLocation, owner}
 use Rattle.model.specs.Cxl0.{WellFormed, State, holds, someMachine, cached, crashes, clears}
-use Rattle.model.specs.Cxl0.{LStore, RStore, MStore, Load, LFlush, RFlush, Crash, Propagate, WriteBack}
+use Rattle.model.specs.Cxl0.{LStore, RStore, MStore, Load, LFlush, RFlush, Crash, RMW, Form, L, R, M}
+use Rattle.model.specs.Cxl0.{Propagate, WriteBack, stored}
 use Rattle.model.specs.Cxl0.{Event, Silent, Action, event, silent, named, enabled, possible, next}
 use Rattle.model.specs.Cxl0.{runs, after, events, count, isStore}
 use Rattle.model.specs.OneLocation.{concerns, eventAt, silentAt, locationOf}
@@ -18,6 +19,7 @@ use Rattle.model.proofs.Tests.{by-test, T→true, not→false, and-l, a
 use Rattle.model.proofs.Machines.{none-e, none-i}
 use Rattle.model.proofs.Goes.{first, parts}
 use Rattle.model.proofs.Stores.{uncached-lacks, steps-of}
+use Rattle.model.proofs.ReadModifyWrites.{load-apart, load-memory, store-settles}
 
 -- x is m in memory alone: no cache holds x, and its memory holds m.
 abbrev pub InMemory : Topology → Location → Value → State → Type 0
@@ -25,35 +27,45 @@ InMemory sys x m s = T (not (cached sys s x)) × (s .memory x ≡ m)
 
 -- ---- an action elsewhere
 
+store-apart-cache : (sys : Topology) (x y : Location) (form : Form) (i : Machine) (v : Value) (s : State)
+    → eqb x y ≡ false → (j : Machine) → stored sys form i y v s .cache j x ≡ s .cache j x
+store-apart-cache sys x y L i v s d j = rw d
+store-apart-cache sys x y R i v s d j = rw d
+store-apart-cache sys x y M i v s d j = rw d
+
+store-apart-memory : (sys : Topology) (x y : Location) (form : Form) (i : Machine) (v : Value) (s : State)
+    → eqb x y ≡ false → stored sys form i y v s .memory x ≡ s .memory x
+store-apart-memory sys x y L i v s d = refl
+store-apart-memory sys x y R i v s d = refl
+store-apart-memory sys x y M i v s d = rw d
+
 apart-cache : (sys : Topology) (x : Location) (a : Action) (s : State) → T (not (concerns x a))
     → (j : Machine) → next sys a s .cache j x ≡ s .cache j x
 unfolding next concerns eventAt locationOf silentAt
-apart-cache sys x (event (LStore i y v)) s d j = rw (not→false {b = eqb x y} d)
-apart-cache sys x (event (RStore i y v)) s d j = rw (not→false {b = eqb x y} d)
-apart-cache sys x (event (MStore i y v)) s d j = rw (not→false {b = eqb x y} d)
-apart-cache sys x (event (Load i y v)) s d j =
-    by-test (cached sys s y)
-    (λ t. rw (T→true {b = cached sys s y} t, not→false {b = eqb x y} d))
-    (λ t. rw (not→false {b = cached sys s y} t))
+apart-cache sys x (event (LStore i y v)) s d j = store-apart-cache sys x y L i v s (not→false d) j
+apart-cache sys x (event (RStore i y v)) s d j = store-apart-cache sys x y R i v s (not→false d) j
+apart-cache sys x (event (MStore i y v)) s d j = store-apart-cache sys x y M i v s (not→false d) j
+apart-cache sys x (event (Load i y v)) s d j = load-apart sys i y v s j x (not→false d)
 apart-cache sys x (event (LFlush i y)) s d j = refl
 apart-cache sys x (event (RFlush i y)) s d j = refl
 apart-cache sys x (event (Crash i)) s d j = absurd d
+apart-cache sys x (event (RMW form i y v w)) s d j =
+    rw (store-settles sys i y v s form w) (store-apart-cache sys x y form i w s (not→false d) j)
 apart-cache sys x (silent (Propagate i y)) s d j = rw (not→false {b = eqb x y} d)
 apart-cache sys x (silent (WriteBack y)) s d j = rw (not→false {b = eqb x y} d)
 
 apart-memory : (sys : Topology) (x : Location) (a : Action) (s : State) → T (not (concerns x a))
     → next sys a s .memory x ≡ s .memory x
 unfolding next concerns eventAt locationOf silentAt
-apart-memory sys x (event (LStore i y v)) s d = refl
-apart-memory sys x (event (RStore i y v)) s d = refl
-apart-memory sys x (event (MStore i y v)) s d = rw (not→false {b = eqb x y} d)
-apart-memory sys x (event (Load i y v)) s d =
-    by-test (cached sys s y)
-    (λ t. rw (T→true {b = cached sys s y} t))
-    (λ t. rw (not→false {b = cached sys s y} t))
+apart-memory sys x (event (LStore i y v)) s d = store-apart-memory sys x y L i v s (not→false d)
+apart-memory sys x (event (RStore i y v)) s d = store-apart-memory sys x y R i v s (not→false d)
+apart-memory sys x (event (MStore i y v)) s d = store-apart-memory sys x y M i v s (not→false d)
+apart-memory sys x (event (Load i y v)) s d = load-memory sys i y v s x
 apart-memory sys x (event (LFlush i y)) s d = refl
 apart-memory sys x (event (RFlush i y)) s d = refl
 apart-memory sys x (event (Crash i)) s d = absurd d
+apart-memory sys x (event (RMW form i y v w)) s d =
+    rw (store-settles sys i y v s form w) (store-apart-memory sys x y form i w s (not→false d))
 apart-memory sys x (silent (Propagate i y)) s d = refl
 apart-memory sys x (silent (WriteBack y)) s d = rw (not→false {b = eqb x y} d)
 
@@ -98,6 +110,7 @@ event-kept sys x m p (RFlush i y) s t n h = h
 event-kept sys x m p (Crash i) s t n h =
     let k = owner sys x in
     (crash-cached sys x i s (h .0), rw (T→true {b = sys .persistent k} p, and-false (eqb k i)) (h .1))
+event-kept sys x m p (RMW form i y v w) s t n h = absurd n
 
 -- Where no cache holds x, no silent step of x is possible.
 silent-none : (sys : Topology) → WellFormed sys → (x : Location) (s : State) → T (not (cached sys s x))

@@ -2,9 +2,10 @@ pub mod Shortcuts
 pub mod Tests
 pub mod Machines
 pub mod Sharers
+pub mod Goes
+pub mod ReadModifyWrites
 pub mod Expand
 pub mod CopiesAgree
-pub mod Goes
 pub mod Stores
 pub mod Proposition1
 pub mod InMemory

@@ -5,7 +5,7 @@ use mathlib.Core.Bool.{Bool, not, _&&_}
 use mathlib.Core.Option.{Option, none, some}
 use lib.Dec.{T, eqb}
 use Rattle.model.specs.Cxl0.{Machine, Location, Topology, isMachine, isLocation, named}
-use Rattle.model.specs.Cxl0.{Event, LStore, RStore, MStore, Load, LFlush, RFlush, Crash, event}
+use Rattle.model.specs.Cxl0.{Event, LStore, RStore, MStore, Load, LFlush, RFlush, Crash, RMW, event}
 use Rattle.model.specs.OneLocation.{locationOf, machineOf, isHere, isNowhere, isHereOrNowhere}
 use Rattle.model.specs.OneLocation.{ownEvent, isCrash, eventAt}
 use Rattle.model.proofs.Tests.{and-l, and-r}
@@ -24,6 +24,7 @@ nowhere-crash (Load i y v) t = absurd t
 nowhere-crash (LFlush i y) t = absurd t
 nowhere-crash (RFlush i y) t = absurd t
 nowhere-crash (Crash i) t = (i, refl)
+nowhere-crash (RMW form i y v w) t = absurd t
 
 -- The two cases of an event.
 pub located : (e : Event) → AtOne e ⊎ ((i : Machine) × (e ≡ Crash i))
@@ -84,6 +85,7 @@ named-by sys (Load i y v) = refl
 named-by sys (LFlush i y) = refl
 named-by sys (RFlush i y) = refl
 named-by sys (Crash i) = refl
+named-by sys (RMW form i y v w) = refl
 
 -- An event at location y names its machine and y.
 pub named-at : (sys : Topology) (e : Event) {y : Location} → locationOf e ≡ some y

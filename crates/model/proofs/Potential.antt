@@ -7,11 +7,12 @@ use native.Mathlib.Omega.{arith}
 use mathlib.Core.Path.{_≡_}
 use mathlib.Core.Bool.{Bool, true, false, cond, not, _&&_}
 use lib.Dec.{T, eqb, eqb-refl, eqb·suc-zero}
-use Rattle.model.specs.Cxl0.{Machine, Location, Topology, isMachine, isLocation, owner, named}
-use Rattle.model.specs.Cxl0.{LStore, RStore, MStore, Load, LFlush, RFlush, Crash, Propagate, WriteBack}
+use Rattle.model.specs.Cxl0.{Machine, Location, Value, Topology, isMachine, isLocation, owner, named}
+use Rattle.model.specs.Cxl0.{LStore, RStore, MStore, Load, LFlush, RFlush, Crash, RMW, Form, L, R, M}
+use Rattle.model.specs.Cxl0.{Propagate, WriteBack}
 use Rattle.model.specs.Cxl0.{Action, event, silent, isStore, isLoad}
 use Rattle.model.specs.Sharers.{has, insert, remove}
-use Rattle.model.specs.OneLocation.{Local, enabledAt, effect, moved, startAt, siteOf}
+use Rattle.model.specs.OneLocation.{Local, enabledAt, storedAt, loadedAt, effect, moved, startAt, siteOf}
 use Rattle.model.proofs.Tests.{and-l, and-r, T→true, not→false, ne→test}
 use Rattle.model.proofs.Sharers.{has-insert, has-remove, has-none, remove-le}
 use Rattle.model.proofs.Expand.{machine-bounds}
@@ -146,18 +147,25 @@ unfoldable pub loss : Action → ℕ
 loss (event e) = 0
 loss (silent a) = 1
 
+-- A store leaves at most 2.
+rank-stored : (sys : Topology) (x y : Location) (form : Form) (i : Machine) (v : Value) (s : Local)
+    → T (isMachine sys (owner sys x)) → T (isMachine sys i && isLocation sys y)
+    → rank sys x (storedAt (siteOf sys x) form i v s) ≤ 2
+unfolding rank siteOf
+rank-stored sys x y L i v s o m =
+    after-store (sys .machines) (owner sys x) i (machine-bounds sys i (and-l (isMachine sys i) (isLocation sys y) m))
+rank-stored sys x y R i v s o m =
+    let k = owner sys x in after-store (sys .machines) k k (machine-bounds sys k o)
+rank-stored sys x y M i v s o m = omega (arith, potential-none (sys .machines) (owner sys x))
+
 -- An action that concerns x takes this away from x's potential and adds no more than that.
 pub rank-step : (sys : Topology) (x : Location) (a : Action) (s : Local)
     → T (isMachine sys (owner sys x)) → T (named sys a) → T (enabledAt (siteOf sys x) a s)
     → rank sys x (effect (siteOf sys x) a s) + loss a ≤ rank sys x s + gain a
 unfolding rank named enabledAt siteOf effect gain loss isStore isLoad
-rank-step sys x (event (LStore i y v)) s o m t =
-    let h = machine-bounds sys i (and-l (isMachine sys i) (isLocation sys y) m) in
-    omega (arith, after-store (sys .machines) (owner sys x) i h)
-rank-step sys x (event (RStore i y v)) s o m t =
-    let k = owner sys x in
-    omega (arith, after-store (sys .machines) k k (machine-bounds sys k o))
-rank-step sys x (event (MStore i y v)) s o m t = omega (arith, potential-none (sys .machines) (owner sys x))
+rank-step sys x (event (LStore i y v)) s o m t = omega (arith, rank-stored sys x y L i v s o m)
+rank-step sys x (event (RStore i y v)) s o m t = omega (arith, rank-stored sys x y R i v s o m)
+rank-step sys x (event (MStore i y v)) s o m t = omega (arith, rank-stored sys x y M i v s o m)
 rank-step sys x (event (Load i y v)) s o m t =
     let h = machine-bounds sys i (and-l (isMachine sys i) (isLocation sys y) m) in
     omega (arith, after-load (sys .machines) (owner sys x) i (s .code) h)
@@ -165,6 +173,7 @@ rank-step sys x (event (LFlush i y)) s o m t = omega arith
 rank-step sys x (event (RFlush i y)) s o m t = omega arith
 rank-step sys x (event (Crash i)) s o m t =
     omega (arith, after-crash (sys .machines) (owner sys x) i (s .code) (machine-bounds sys i m))
+rank-step sys x (event (RMW form i y v w)) s o m t = omega (arith, rank-stored sys x y form i w (loadedAt i s) o m)
 rank-step sys x (silent (Propagate i y)) s o m t =
     let k = owner sys x in
     let h = machine-bounds sys i (and-l (isMachine sys i) (isLocation sys y) m) in

@@ -85,11 +85,17 @@ cached sys s x = someMachine (sys .machines) (λ j. holds (s .cache j x))
 
 -- ---- events and silent steps
 
--- What a log records: by machine i, on location x, of value v.
+-- Where a store puts its value: the cache of the machine that stores, the cache of the owner, or the owner's memory.
+pub data Form : Type 0 where
+  L R M : Form
+
+-- What a log records: by machine i, on location x, of value v. A read-modify-write (source 000, appendix A: L-RMW, R-RMW
+-- and M-RMW) reads v and writes w.
 pub data Event : Type 0 where
   LStore RStore MStore Load : (i : Machine) (x : Location) (v : Value) → Event
   LFlush RFlush : (i : Machine) (x : Location) → Event
   Crash : (i : Machine) → Event
+  RMW : (form : Form) (i : Machine) (x : Location) (v w : Value) → Event
 
 -- What nobody sees (document 01: silent steps). `Propagate` is its move: i's copy goes to the owner's cache.
 pub data Silent : Type 0 where
@@ -109,6 +115,7 @@ crashes (Load i x v) j = false
 crashes (LFlush i x) j = false
 crashes (RFlush i x) j = false
 crashes (Crash i) j = eqb j i
+crashes (RMW form i x v w) j = false
 
 -- The memory of a location is lost in a crash of its owner, if the owner's memory is volatile.
 unfoldable pub clears : Topology → Event → Location → Bool
@@ -123,22 +130,28 @@ named sys (event (Load i x v)) = isMachine sys i && isLocation sys x
 named sys (event (LFlush i x)) = isMachine sys i && isLocation sys x
 named sys (event (RFlush i x)) = isMachine sys i && isLocation sys x
 named sys (event (Crash i)) = isMachine sys i
+named sys (event (RMW form i x v w)) = isMachine sys i && isLocation sys x
 named sys (silent (Propagate i x)) = isMachine sys i && isLocation sys x
 named sys (silent (WriteBack x)) = isLocation sys x
+
+-- What a load of v asks of the state: if some cache holds x, it must hold v; if none does, the owner's memory must.
+abbrev pub readable : Topology → Location → Value → State → Bool
+readable sys x v s =
+    cond (cached sys s x) (everyMachine (sys .machines) (λ j. agrees v (s .cache j x))) (eqb (s .memory x) v)
 
 -- What an action asks of the state.
 unfoldable pub enabled : Topology → Action → State → Bool
 enabled sys (event (LStore i x v)) s = true
 enabled sys (event (RStore i x v)) s = true
 enabled sys (event (MStore i x v)) s = true
--- if some cache holds x, it must hold v; if none does, the owner's memory must hold v
-enabled sys (event (Load i x v)) s =
-    cond (cached sys s x) (everyMachine (sys .machines) (λ j. agrees v (s .cache j x))) (eqb (s .memory x) v)
+enabled sys (event (Load i x v)) s = readable sys x v s
 -- i's cache holds nothing for x
 enabled sys (event (LFlush i x)) s = not (holds (s .cache i x))
 -- no cache holds x
 enabled sys (event (RFlush i x)) s = not (cached sys s x)
 enabled sys (event (Crash i)) s = true
+-- what its load asks: its store asks nothing
+enabled sys (event (RMW form i x v w)) s = readable sys x v s
 -- i is not the owner, and its cache holds x
 enabled sys (silent (Propagate i x)) s = not (eqb i (owner sys x)) && holds (s .cache i x)
 -- the owner's cache holds x
@@ -156,16 +169,25 @@ also i x c s j y = cond (eqb y x) (cond (eqb j i) c (s .cache j y)) (s .cache j 
 abbrev pub without : Location → State → Machine → Location → Option Value
 without x s j y = cond (eqb y x) none (s .cache j y)
 
+-- The state after a store of v by i.
+abbrev pub stored : Topology → Form → Machine → Location → Value → State → State
+-- i's cache gets v; every other cache loses x; memory stays
+stored sys L i x v s = record { cache = only i x (some v) s; memory = s .memory }
+-- the owner's cache gets v; every other cache loses x; memory stays
+stored sys R i x v s = record { cache = only (owner sys x) x (some v) s; memory = s .memory }
+-- the owner's memory gets v; every cache loses x
+stored sys M i x v s = record { cache = without x s; memory = λ y. cond (eqb y x) v (s .memory y) }
+
+-- The state after a load of v by i: if some cache holds x, i's cache gets v too; if none does, nothing changes.
+abbrev pub loaded : Topology → Machine → Location → Value → State → State
+loaded sys i x v s = cond (cached sys s x) (record { cache = also i x (some v) s; memory = s .memory }) s
+
 -- The state after an action. It is meant only where the action is possible.
 unfoldable pub next : Topology → Action → State → State
--- i's cache gets v; every other cache loses x; memory stays
-next sys (event (LStore i x v)) s = record { cache = only i x (some v) s; memory = s .memory }
--- the owner's cache gets v; every other cache loses x; memory stays
-next sys (event (RStore i x v)) s = record { cache = only (owner sys x) x (some v) s; memory = s .memory }
--- the owner's memory gets v; every cache loses x
-next sys (event (MStore i x v)) s = record { cache = without x s; memory = λ y. cond (eqb y x) v (s .memory y) }
--- if some cache holds x, i's cache gets v too; if none does, nothing changes
-next sys (event (Load i x v)) s = cond (cached sys s x) (record { cache = also i x (some v) s; memory = s .memory }) s
+next sys (event (LStore i x v)) s = stored sys L i x v s
+next sys (event (RStore i x v)) s = stored sys R i x v s
+next sys (event (MStore i x v)) s = stored sys M i x v s
+next sys (event (Load i x v)) s = loaded sys i x v s
 next sys (event (LFlush i x)) s = s
 next sys (event (RFlush i x)) s = s
 -- i's cache is emptied; where i's memory is volatile, the locations that i owns return to their initial value
@@ -174,6 +196,8 @@ next sys (event (Crash i)) s =
       cache = λ j y. cond (crashes (Crash i) j) none (s .cache j y);
       memory = λ y. cond (clears sys (Crash i) y) (initial sys y) (s .memory y);
     }
+-- a load of v and the store of w, with nothing between them
+next sys (event (RMW form i x v w)) s = stored sys form i x w (loaded sys i x v s)
 -- i loses x, and the owner's cache gets the value that i's held
 next sys (silent (Propagate i x)) s =
     record {
@@ -241,7 +265,7 @@ unfoldable pub count : {A : Type 0} → (A → Bool) → List A → ℕ
 count test [] = 0
 count test (a ∷ l) = cond (test a) (suc (count test l)) (count test l)
 
--- Stores are LStore, RStore and MStore.
+-- Stores are LStore, RStore, MStore and every read-modify-write.
 unfoldable pub isStore : Event → Bool
 isStore (LStore i x v) = true
 isStore (RStore i x v) = true
@@ -250,6 +274,7 @@ isStore (Load i x v) = false
 isStore (LFlush i x) = false
 isStore (RFlush i x) = false
 isStore (Crash i) = false
+isStore (RMW form i x v w) = true
 
 unfoldable pub isLoad : Event → Bool
 isLoad (LStore i x v) = false
@@ -259,3 +284,4 @@ isLoad (Load i x v) = true
 isLoad (LFlush i x) = false
 isLoad (RFlush i x) = false
 isLoad (Crash i) = false
+isLoad (RMW form i x v w) = false

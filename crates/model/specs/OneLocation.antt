@@ -8,7 +8,7 @@ use mathlib.Core.List.{List, [], _∷_}
 use mathlib.Core.Option.{Option, none, some}
 use lib.Dec.{T, eqb}
 use Rattle.model.specs.Cxl0.{Machine, Location, Value, Topology, owner, initial, State, crashes, events}
-use Rattle.model.specs.Cxl0.{Event, LStore, RStore, MStore, Load, LFlush, RFlush, Crash}
+use Rattle.model.specs.Cxl0.{Event, LStore, RStore, MStore, Load, LFlush, RFlush, Crash, RMW, Form, L, R, M}
 use Rattle.model.specs.Cxl0.{Silent, Propagate, WriteBack, Action, event, silent}
 use Rattle.model.specs.Sharers.{has, insert, remove}
 
@@ -36,6 +36,7 @@ locationOf (Load i y v) = some y
 locationOf (LFlush i y) = some y
 locationOf (RFlush i y) = some y
 locationOf (Crash i) = none
+locationOf (RMW form i y v w) = some y
 
 -- The machine that an event names.
 abbrev pub machineOf : Event → Machine
@@ -46,6 +47,7 @@ machineOf (Load i y v) = i
 machineOf (LFlush i y) = i
 machineOf (RFlush i y) = i
 machineOf (Crash i) = i
+machineOf (RMW form i y v w) = i
 
 abbrev pub isHere : Location → Option Location → Bool
 isHere x (some y) = eqb x y
@@ -95,15 +97,20 @@ siteOf sys x =
 abbrev pub clearsSite : Event → Site → Bool
 clearsSite e k = crashes e (k .owner) && k .volatile
 
+-- What a load of v asks of a short form.
+abbrev pub readableAt : Value → Local → Bool
+readableAt v s = cond (eqb (s .code) 0) (eqb (s .memory) v) (eqb (s .copy) v)
+
 -- What an action that concerns a location asks of its short form.
 unfoldable pub enabledAt : Site → Action → Local → Bool
 enabledAt k (event (LStore i y v)) s = true
 enabledAt k (event (RStore i y v)) s = true
 enabledAt k (event (MStore i y v)) s = true
-enabledAt k (event (Load i y v)) s = cond (eqb (s .code) 0) (eqb (s .memory) v) (eqb (s .copy) v)
+enabledAt k (event (Load i y v)) s = readableAt v s
 enabledAt k (event (LFlush i y)) s = not (has i (s .code))
 enabledAt k (event (RFlush i y)) s = eqb (s .code) 0
 enabledAt k (event (Crash i)) s = true
+enabledAt k (event (RMW form i y v w)) s = readableAt v s
 enabledAt k (silent (Propagate i y)) s = not (eqb i (k .owner)) && has i (s .code)
 enabledAt k (silent (WriteBack y)) s = has (k .owner) (s .code)
 
@@ -111,13 +118,22 @@ enabledAt k (silent (WriteBack y)) s = has (k .owner) (s .code)
 unfoldable pub moved : Machine → Machine → ℕ → ℕ
 moved k i c = insert k (remove i c)
 
+-- The short form of a location after a store of v by i, and after a load by i.
+abbrev pub storedAt : Site → Form → Machine → Value → Local → Local
+storedAt k L i v s = record { code = insert i 0; copy = v; memory = s .memory }
+storedAt k R i v s = record { code = insert (k .owner) 0; copy = v; memory = s .memory }
+storedAt k M i v s = record { code = 0; copy = s .copy; memory = v }
+
+abbrev pub loadedAt : Machine → Local → Local
+loadedAt i s =
+    record { code = cond (eqb (s .code) 0) 0 (insert i (s .code)); copy = s .copy; memory = s .memory }
+
 -- The short form of a location after an action that concerns it.
 unfoldable pub effect : Site → Action → Local → Local
-effect k (event (LStore i y v)) s = record { code = insert i 0; copy = v; memory = s .memory }
-effect k (event (RStore i y v)) s = record { code = insert (k .owner) 0; copy = v; memory = s .memory }
-effect k (event (MStore i y v)) s = record { code = 0; copy = s .copy; memory = v }
-effect k (event (Load i y v)) s =
-    record { code = cond (eqb (s .code) 0) 0 (insert i (s .code)); copy = s .copy; memory = s .memory }
+effect k (event (LStore i y v)) s = storedAt k L i v s
+effect k (event (RStore i y v)) s = storedAt k R i v s
+effect k (event (MStore i y v)) s = storedAt k M i v s
+effect k (event (Load i y v)) s = loadedAt i s
 effect k (event (LFlush i y)) s = s
 effect k (event (RFlush i y)) s = s
 effect k (event (Crash i)) s =
@@ -126,6 +142,7 @@ effect k (event (Crash i)) s =
       copy = s .copy;
       memory = cond (clearsSite (Crash i) k) (k .initial) (s .memory);
     }
+effect k (event (RMW form i y v w)) s = storedAt k form i w (loadedAt i s)
 effect k (silent (Propagate i y)) s =
     record { code = moved (k .owner) i (s .code); copy = s .copy; memory = s .memory }
 effect k (silent (WriteBack y)) s = record { code = 0; copy = s .copy; memory = s .copy }

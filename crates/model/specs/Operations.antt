@@ -1,20 +1,29 @@
--- The numbers of the operations: 1 LStore, 2 RStore, 3 MStore, 4 Load, 5 LFlush, 6 RFlush, 7 crash.
+-- The numbers of the operations: 1 LStore, 2 RStore, 3 MStore, 4 Load, 5 LFlush, 6 RFlush, 7 crash, 8 L-RMW, 9 R-RMW,
+-- 10 M-RMW.
 use Prim.Native.Nat.{ℕ}
-use mathlib.Core.Bool.{Bool, cond, _&&_}
+use mathlib.Core.Bool.{Bool, cond, not, _&&_}
 use lib.Dec.{leb, eqb}
 use Rattle.model.specs.Cxl0.{Machine, Location, Value}
-use Rattle.model.specs.Cxl0.{Event, LStore, RStore, MStore, Load, LFlush, RFlush, Crash}
+use Rattle.model.specs.Cxl0.{Event, LStore, RStore, MStore, Load, LFlush, RFlush, Crash, RMW, L, R, M}
 
 unfoldable pub isOperation : ℕ → Bool
-isOperation op = leb 1 op && leb op 7
+isOperation op = leb 1 op && leb op 10
 
--- The event of an operation by its number, with the machine, the location and the value of which it uses what it needs.
-unfoldable pub eventOf : ℕ → Machine → Location → Value → Event
-eventOf op i x v =
+-- The operations at a location: all but the crash.
+unfoldable pub isLocated : ℕ → Bool
+isLocated op = isOperation op && not (eqb op 7)
+
+-- The event of an operation by its number, with the machine, the location, the value and the value that is written
+-- after a read, of which it uses what it needs.
+unfoldable pub eventOf : ℕ → Machine → Location → Value → Value → Event
+eventOf op i x v w =
     cond (eqb op 1) (LStore i x v)
     (cond (eqb op 2) (RStore i x v)
     (cond (eqb op 3) (MStore i x v)
     (cond (eqb op 4) (Load i x v)
     (cond (eqb op 5) (LFlush i x)
     (cond (eqb op 6) (RFlush i x)
-    (Crash i))))))
+    (cond (eqb op 8) (RMW L i x v w)
+    (cond (eqb op 9) (RMW R i x v w)
+    (cond (eqb op 10) (RMW M i x v w)
+    (Crash i)))))))))

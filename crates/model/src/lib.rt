@@ -28,10 +28,12 @@ pub struct Topology {
     pub homes: [Home; LOCATIONS],
 }
 
-// An event by its operation number; what the operation does not use is ignored.
+// An event by its operation number; what the operation does not use is ignored. `value` is what was stored or read,
+// `written` what a read-modify-write stored after its read.
 pub struct Event {
     pub operation: u8,
     pub machine: Machine,
     pub location: Location,
     pub value: u32,
+    pub written: u32,
 }
