@@ -3,8 +3,8 @@
 ghost use mathlib.Core.Path.{_≡_};
 ghost use mathlib.Core.Bool.{cond};
 ghost use Rattle.model.specs.Cxl0.{Crash, silent, Propagate, WriteBack};
-ghost use Rattle.model.specs.OneLocation.{clearsSite};
-ghost use Rattle.entries.specs.Entries.{siteMeant, maskedTo, actedOf, actedBy};
+ghost use Rattle.model.specs.OneLocation.{clearsSite, readableAt};
+ghost use Rattle.entries.specs.Entries.{siteMeant, shortOf, maskedTo, actedOf, actedBy};
 use super::Acted;
 use super::Entry;
 use super::Site;
@@ -55,6 +55,17 @@ impl Entry {
         }
     }
 
+    // A load of v is possible: copies have the value v, or memory where there is no copy.
+    fn reads(self, v: u32) -> bool
+        ensures { λ r. ⌜ r ≡ readableAt v (shortOf self) ⌝ }
+    {
+        if self.sharers == 0 {
+            self.memory == v
+        } else {
+            self.copy == v
+        }
+    }
+
     // An event by its operation number; one that is no operation's is not possible. A line has what the event asks, who
     // holds copies after it, their value, and the value in memory.
     pub fn act(self, site: Site, e: Event) -> Acted
@@ -82,8 +93,12 @@ impl Entry {
             6 => acted(held == 0, held, copy, memory),
             // a crash
             7 => acted(true, held & !mine, copy, site.left(e.machine, memory)),
+            // L-RMW, R-RMW, M-RMW: the load of v, and at once the store
+            8 => acted(self.reads(v), mine, e.written, memory),
+            9 => acted(self.reads(v), bit(site.owner), e.written, memory),
+            10 => acted(self.reads(v), 0, copy, e.written),
             0 => acted(false, held, copy, memory),
-            8..=255 => acted(false, held, copy, memory),
+            11..=255 => acted(false, held, copy, memory),
         }
     }
 

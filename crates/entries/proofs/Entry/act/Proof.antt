@@ -74,19 +74,46 @@ returns-8 c =
     (c .acted8 .ensures ∙ same-acted refl (same-entry lost (c .before .left .ensures)))
 
 returns-9 : tie.Need-returns-9
-unfolding isOperation actedBy
+unfolding isOperation eventOf enabledAt effect shortOf entryOf actedOf actedBy
 returns-9 c =
-    rw (c .before .match .keys8) (c .acted9 .ensures)
+    let mine = c .before .before .before .bit in
+    rw (c .before .before .match .keys8)
+    (c .acted9 .ensures ∙ same-acted (c .before .reads .ensures) (same-entry (mine .ensures) refl))
 
 returns-10 : tie.Need-returns-10
-unfolding actedBy
+unfolding isOperation eventOf enabledAt effect shortOf entryOf actedOf actedBy
 returns-10 c =
-    rw (no-operation (c .before .match .rest)) (c .acted10 .ensures)
+    let owners = c .before .bit3 in
+    let read = c .before .before .reads2 in
+    rw (c .before .before .before .match .keys9)
+    (c .acted10 .ensures ∙ same-acted (read .ensures) (same-entry (owners .ensures) refl))
+
+returns-11 : tie.Need-returns-11
+unfolding isOperation eventOf enabledAt effect shortOf entryOf actedOf actedBy
+returns-11 c =
+    rw (c .before .before .match .keys10) (c .acted11 .ensures ∙ same-acted (c .before .reads3 .ensures) refl)
+
+returns-12 : tie.Need-returns-12
+unfolding isOperation actedBy
+returns-12 c =
+    rw (c .before .match .keys11) (c .acted12 .ensures)
+
+returns-13 : tie.Need-returns-13
+unfolding actedBy
+returns-13 c =
+    rw (no-operation (c .before .match .rest)) (c .acted13 .ensures)
 
 pub act-spec : {M : Type 1} → statement M
 act-spec =
     tie.close
     (tie.spec
+    nothing
+    nothing
+    nothing
+    nothing
+    nothing
+    nothing
+    nothing
     nothing
     nothing
     nothing
@@ -109,4 +136,7 @@ act-spec =
     returns-7
     returns-8
     returns-9
-    returns-10)
+    returns-10
+    returns-11
+    returns-12
+    returns-13)
