@@ -16,7 +16,7 @@ use Rattle.model.specs.Operations.{isOperation, isLocated, eventOf}
 use Rattle.model.specs.OneLocation.{locationOf, machineOf}
 use Rattle.model.specs.Meaning.{meant}
 use Rattle.model.specs.declared.Event as event
-use Rattle.model.proofs.Tests.{T→true, and-l, and-r, ne-test}
+use Rattle.model.proofs.Tests.{T→true, and-i, and-l, and-r, ne-test, ne→test}
 
 -- Numbers 1 to 10 are those of the events, in the order of document 01 and its change request W-201.
 pub numbered : (i : Machine) (x : Location) (v w : Value)
@@ -97,6 +97,11 @@ by-number e P p₁ p₂ p₃ p₄ p₅ p₆ p₈ p₉ p₁₀ q =
     choose P op 4 p₄ (λ n₄. choose P op 5 p₅ (λ n₅. choose P op 6 p₆ (λ n₆.
     choose P op 8 p₈ (λ n₈. choose P op 9 p₉ (λ n₉. choose P op 10 p₁₀ (λ n₁₀.
     q op (λ at. located-number at n₁ n₂ n₃ n₄ n₅ n₆ n₈ n₉ n₁₀))))))))))
+
+-- An operation that is not the crash is at a location.
+pub not-crash : {op : ℕ} → T (isOperation op) → op ≢ 7 → T (isLocated op)
+unfolding isLocated
+not-crash {op} is n = and-i (isOperation op) (not (eqb op 7)) is (ne→test op 7 n)
 
 -- The operations at a location name it.
 pub at-location : (e : event.Event) → T (isLocated (e .operation)) → locationOf (meant e) ≡ some (e .location .0)

@@ -2,7 +2,6 @@
 use mathlib.Core.Path.{_≡_, refl, sym, ap, ap₂, _∙_}
 use mathlib.Core.Logic.{_≢_}
 use mathlib.Core.Bool.{Bool, true, false, _&&_, and-assoc, and-false}
-use native.Mathlib.Omega.{arith}
 use lib.Dec.{T, eqb, eqb→eq, eqb-refl}
 use lib.ListN.{length, set, length-set}
 use lib.Seq.{getD-set-same, getD-set-other}
@@ -20,7 +19,7 @@ use Rattle.states.specs.States.{entryAt, localOf, stateOf, entryAfter, s
 use Rattle.states.specs.declared.State as state
 use Rattle.states.specs.declared.Stepped as stepped
 use Rattle.model.proofs.Tests.{by-test, T→true, true→T, not→false, ne-test}
-use Rattle.model.proofs.Operations.{operation-range, at-location, machine-of}
+use Rattle.model.proofs.Operations.{not-crash, at-location, machine-of}
 use Rattle.model.proofs.Locations.{named-at}
 use Rattle.model.proofs.Expand.{enabled-expand}
 use Rattle.states.proofs.Effects.{asked, admits}
@@ -82,8 +81,7 @@ applied t e s room n {m} g {b} f {r} k = go (isOperation (e .operation)) refl
         × ((r .possible ≡ false → r .state ≡ s) × (r ≡ appliedOf t e s))
     go true is =
         let x = e .location .0 in
-        let range = operation-range (true→T is) in
-        let here = at-location e (range .0) (omega (arith, range .1)) in
+        let here = at-location e (not-crash (true→T is) n) in
         let names = rw (machine-of e) at (named-at (topologyOf t) (meant e) here) in
         rw is
         (settled t (Cxl0.event (meant e)) s x (λ y. unfold concerns eventAt in ap (isHereOrNowhere y) here) room

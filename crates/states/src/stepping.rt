@@ -2,7 +2,7 @@
 ghost use mathlib.Core.Path.{_≡_};
 ghost use mathlib.Core.Bool.{false};
 ghost use lib.Dec.{T};
-ghost use Rattle.model.specs.Cxl0.{start, event, LStore, RStore, MStore, Load, LFlush, RFlush, Crash};
+ghost use Rattle.model.specs.Cxl0.{start, event, LStore, RStore, MStore, Load, LFlush, RFlush, Crash, RMW, L, R, M};
 ghost use Rattle.model.specs.Cxl0.{silent, Propagate, WriteBack};
 ghost use Rattle.model.specs.OneLocation.{isCrash};
 ghost use Rattle.model.specs.Operations.{isOperation};
@@ -23,14 +23,21 @@ use model::Machine;
 use model::Topology;
 
 // The event of an operation by its number, of which the event uses what it needs.
-fn numbered(operation: u8, machine: Machine, location: Location, value: u32) -> Event
-    ensures { λ r. ⌜ r ≡ record { operation = operation; machine = machine; location = location; value = value } ⌝ }
+fn numbered(operation: u8, machine: Machine, location: Location, value: u32, written: u32) -> Event
+    ensures { λ r. ⌜ r ≡ record {
+      operation = operation;
+      machine = machine;
+      location = location;
+      value = value;
+      written = written;
+    } ⌝ }
 {
     Event {
         operation,
         machine,
         location,
         value,
+        written,
     }
 }
 
@@ -105,7 +112,7 @@ impl State {
         if t.within_limits() & t.is_machine(i) {
             Stepped {
                 possible: true,
-                state: self.crashed(t, numbered(7, i, Location(0), 0)),
+                state: self.crashed(t, numbered(7, i, Location(0), 0, 0)),
             }
         } else {
             Stepped {
@@ -135,7 +142,7 @@ impl State {
         ensures kept { λ r. ⌜ (r .possible ≡ false → r .state ≡ self) ⌝ }
         ensures whole { λ r. ⌜ r ≡ steppedOf t (event (LStore (i .0) (x .0) v)) self ⌝ }
     {
-        self.apply(t, numbered(1, i, x, v))
+        self.apply(t, numbered(1, i, x, v, 0))
     }
 
     pub fn r_store(self, t: Topology, i: Machine, x: Location, v: u32) -> Stepped
@@ -143,7 +150,7 @@ impl State {
         ensures kept { λ r. ⌜ (r .possible ≡ false → r .state ≡ self) ⌝ }
         ensures whole { λ r. ⌜ r ≡ steppedOf t (event (RStore (i .0) (x .0) v)) self ⌝ }
     {
-        self.apply(t, numbered(2, i, x, v))
+        self.apply(t, numbered(2, i, x, v, 0))
     }
 
     pub fn m_store(self, t: Topology, i: Machine, x: Location, v: u32) -> Stepped
@@ -151,7 +158,7 @@ impl State {
         ensures kept { λ r. ⌜ (r .possible ≡ false → r .state ≡ self) ⌝ }
         ensures whole { λ r. ⌜ r ≡ steppedOf t (event (MStore (i .0) (x .0) v)) self ⌝ }
     {
-        self.apply(t, numbered(3, i, x, v))
+        self.apply(t, numbered(3, i, x, v, 0))
     }
 
     pub fn load(self, t: Topology, i: Machine, x: Location, v: u32) -> Stepped
@@ -159,7 +166,7 @@ impl State {
         ensures kept { λ r. ⌜ (r .possible ≡ false → r .state ≡ self) ⌝ }
         ensures whole { λ r. ⌜ r ≡ steppedOf t (event (Load (i .0) (x .0) v)) self ⌝ }
     {
-        self.apply(t, numbered(4, i, x, v))
+        self.apply(t, numbered(4, i, x, v, 0))
     }
 
     pub fn l_flush(self, t: Topology, i: Machine, x: Location) -> Stepped
@@ -167,7 +174,7 @@ impl State {
         ensures kept { λ r. ⌜ (r .possible ≡ false → r .state ≡ self) ⌝ }
         ensures whole { λ r. ⌜ r ≡ steppedOf t (event (LFlush (i .0) (x .0))) self ⌝ }
     {
-        self.apply(t, numbered(5, i, x, 0))
+        self.apply(t, numbered(5, i, x, 0, 0))
     }
 
     pub fn r_flush(self, t: Topology, i: Machine, x: Location) -> Stepped
@@ -175,7 +182,32 @@ impl State {
         ensures kept { λ r. ⌜ (r .possible ≡ false → r .state ≡ self) ⌝ }
         ensures whole { λ r. ⌜ r ≡ steppedOf t (event (RFlush (i .0) (x .0))) self ⌝ }
     {
-        self.apply(t, numbered(6, i, x, 0))
+        self.apply(t, numbered(6, i, x, 0, 0))
+    }
+
+    // A load of v and the store of w, with nothing between them.
+    pub fn l_rmw(self, t: Topology, i: Machine, x: Location, v: u32, w: u32) -> Stepped
+        ensures { λ r. ⌜ outcomeOf t r ≡ attempt t (event (RMW L (i .0) (x .0) v w)) (stateOf t self) ⌝ }
+        ensures kept { λ r. ⌜ (r .possible ≡ false → r .state ≡ self) ⌝ }
+        ensures whole { λ r. ⌜ r ≡ steppedOf t (event (RMW L (i .0) (x .0) v w)) self ⌝ }
+    {
+        self.apply(t, numbered(8, i, x, v, w))
+    }
+
+    pub fn r_rmw(self, t: Topology, i: Machine, x: Location, v: u32, w: u32) -> Stepped
+        ensures { λ r. ⌜ outcomeOf t r ≡ attempt t (event (RMW R (i .0) (x .0) v w)) (stateOf t self) ⌝ }
+        ensures kept { λ r. ⌜ (r .possible ≡ false → r .state ≡ self) ⌝ }
+        ensures whole { λ r. ⌜ r ≡ steppedOf t (event (RMW R (i .0) (x .0) v w)) self ⌝ }
+    {
+        self.apply(t, numbered(9, i, x, v, w))
+    }
+
+    pub fn m_rmw(self, t: Topology, i: Machine, x: Location, v: u32, w: u32) -> Stepped
+        ensures { λ r. ⌜ outcomeOf t r ≡ attempt t (event (RMW M (i .0) (x .0) v w)) (stateOf t self) ⌝ }
+        ensures kept { λ r. ⌜ (r .possible ≡ false → r .state ≡ self) ⌝ }
+        ensures whole { λ r. ⌜ r ≡ steppedOf t (event (RMW M (i .0) (x .0) v w)) self ⌝ }
+    {
+        self.apply(t, numbered(10, i, x, v, w))
     }
 
     pub fn propagate(self, t: Topology, i: Machine, x: Location) -> Stepped
