@@ -5,10 +5,10 @@ use native.Mathlib.Nat.{eq-or-lt-of-le, not-le-of-lt}
 use native.Mathlib.Omega.{arith}
 use mathlib.Core.Path.{_≡_, refl, sym, subst}
 use mathlib.Core.Logic.{_≢_, ⊎-elim}
-use mathlib.Core.Bool.{Bool, true, false, cond, not}
+use mathlib.Core.Bool.{Bool, true, false, cond, not, _&&_}
 use mathlib.Core.List.{[], _∷_, map}
 use mathlib.Core.Option.{some}
-use lib.Dec.{T, eqb, eqb→eq, leb, lit≤}
+use lib.Dec.{T, eqb, eqb→eq, leb, le→leb, lit≤}
 use borrow.Author.Tests.{leb-true}
 use Rattle.model.specs.Cxl0.{Machine, Location, Value}
 use Rattle.model.specs.Cxl0.{Event, LStore, RStore, MStore, Load, LFlush, RFlush, Crash, RMW, L, R, M}
@@ -97,6 +97,19 @@ by-number e P p₁ p₂ p₃ p₄ p₅ p₆ p₈ p₉ p₁₀ q =
     choose P op 4 p₄ (λ n₄. choose P op 5 p₅ (λ n₅. choose P op 6 p₆ (λ n₆.
     choose P op 8 p₈ (λ n₈. choose P op 9 p₉ (λ n₉. choose P op 10 p₁₀ (λ n₁₀.
     q op (λ at. located-number at n₁ n₂ n₃ n₄ n₅ n₆ n₈ n₉ n₁₀))))))))))
+
+-- So any of 1 to 10 but 7 is at a location, and no other number is.
+pub located : {op : ℕ} → 1 ≤ op → op ≤ 10 → op ≢ 7 → T (isLocated op)
+unfolding isLocated isOperation
+located {op} l h n =
+    and-i (leb 1 op && leb op 10) (not (eqb op 7)) (and-i (leb 1 op) (leb op 10) (le→leb 1 op l) (le→leb op 10 h))
+    (ne→test op 7 n)
+
+pub unlocated : {op : ℕ} → (1 ≤ op → op ≤ 10 → op ≢ 7 → ⊥) → ¬ T (isLocated op)
+unfolding isLocated
+unlocated {op} outside at =
+    let range = operation-range (and-l (isOperation op) (not (eqb op 7)) at) in
+    outside (range .0) (range .1) (ne-test op 7 (and-r (isOperation op) (not (eqb op 7)) at))
 
 -- An operation that is not the crash is at a location.
 pub not-crash : {op : ℕ} → T (isOperation op) → op ≢ 7 → T (isLocated op)

@@ -50,6 +50,20 @@ fine-any a c m = (inl, ⊎-elim (λ p. p) (λ p. absurd (in-none c (p .0))))
 pub any-of : (a : ℕ) (P : ℕ → Type 0) (r : Row) → Exactly a P → r ≡ anyRow a → RowOf (λ c m. P c) r
 any-of a P r p e c m h = rw e (Iff·trans (Iff·symm (p c h)) (fine-any a c m))
 
+-- The row of no codes has no state.
+pub no-state : (P : ℕ → Value → Type 0) (r : Row) → ((c m : ℕ) → ¬ P c m) → r ≡ anyRow 0 → RowOf P r
+no-state P r none e c m h =
+    (λ p. absurd (none c m p), λ f. absurd (in-none c (fine-any 0 c m .1 (rw e at f))))
+
+-- A second test of the memory value changes nothing where it is passed, and may be put in the place of another.
+pub passed : (P : ℕ → Value → Type 0) (Q : Value → Type 0) (r : Row) → ((m : Value) → Q m) → RowOf P r
+    → RowOf (λ c m. P c m × Q m) r
+passed P Q r all row c m h = (λ p. row c m h .0 (p .0), λ f. (row c m h .1 f, all m))
+
+pub in-place : (P : ℕ → Value → Type 0) (Q Q' : Value → Type 0) (r : Row) → ((m : Value) → Q m ↔ Q' m)
+    → RowOf (λ c m. P c m × Q m) r → RowOf (λ c m. P c m × Q' m) r
+in-place P Q Q' r same row c m h = Iff·trans (Iff·and Iff·rfl (Iff·symm (same m))) (row c m h)
+
 module _ (rest : Row) where
   -- A row with no code in `any` or `one` has no state, and one with a code there has one.
   pub row-none : bitOr (rest .any) (rest .one) ≡ 0 → Empty rest

@@ -8,10 +8,10 @@ use lib.Dec.{T, eqb, eqb→eq, eqb·suc-zero}
 use lib.Ieee.Fits.{eq→eqb}
 use Rattle.model.specs.Cxl0.{Location, Value, Topology, Event}
 use Rattle.model.specs.Sharers.{insert}
-use Rattle.model.specs.OneLocation.{eventAt, concerns, siteOf, possibleAt, nextAt}
+use Rattle.model.specs.OneLocation.{eventAt, concerns, siteOf, readableAt, possibleAt, nextAt}
 use Rattle.model.proofs.Tests.{T→true}
 use Rattle.rows.specs.declared.Row.{Row}
-use Rattle.rows.specs.Rows.{Fine, RowOf, Line, Before}
+use Rattle.rows.specs.Rows.{state, Fine, RowOf, Line, Before}
 
 -- A line that asks nothing of the state, and one that asks for code 0.
 pub line-any : {P Q : Type 0} → P ↔ Q → (Unit {0} × P) ↔ Q
@@ -19,6 +19,18 @@ line-any r = (λ p. r .0 (p .1), λ q. (tt, r .1 q))
 
 pub line-none : {P Q : Type 0} (c : ℕ) → ((c ≡ 0) × P) ↔ Q → (T (eqb c 0) × P) ↔ Q
 line-none c r = (λ p. r .0 (eqb→eq c 0 (p .0), p .1), λ q. let p = r .1 q in (eq→eqb (p .0), p .1))
+
+-- A load of v is possible from copies of value u, or from memory where there is no copy.
+abbrev pub Reads : Value → Value → ℕ → Value → Type 0
+Reads u v c m = ((c ≢ 0) × (u ≡ v)) ⊎ ((c ≡ 0) × (m ≡ v))
+
+pub reads : (u v c m : ℕ) → T (readableAt v (state c u m)) ↔ Reads u v c m
+reads u v zero m = (λ t. inr (refl, eqb→eq m v t), ⊎-elim (λ p. absurd (p .0 refl)) (λ p. eq→eqb (p .1)))
+reads u v (suc c) m =
+    rw (eqb·suc-zero c) (
+      λ t. inl (λ z. omega arith, eqb→eq u v t),
+      ⊎-elim (λ p. eq→eqb (p .1)) (λ p. absurd (omega (arith, p .0))),
+    )
 
 -- The line of a load of v by machine i: from memory, which leaves no copy, or from copies of value u.
 abbrev pub Loads : Row → ℕ → Value → Value → ℕ → Value → Type 0

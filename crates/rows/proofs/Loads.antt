@@ -1,30 +1,33 @@
 -- Which row meets the Load line, by whether code 0 is fine after the load of v and whether the copies' value
 -- u is v.
-use Prim.Native.Nat.{ℕ}
 use mathlib.Core.Path.{_≡_, sym, subst}
-use mathlib.Core.Logic.{_≢_, _⊎_, inl, inr, ⊎-elim}
+use mathlib.Core.Logic.{_≢_, _⊎_, inl, inr, ⊎-elim, Iff·symm, Iff·trans}
+use lib.Dec.{T}
 use Rattle.model.specs.Cxl0.{Machine, Value}
 use Rattle.model.specs.Sharers.{insert}
 use Rattle.model.proofs.SilentSteps.{has→some}
-use Rattle.masks.specs.Sets.{In, Exactly, OneToSix}
-use Rattle.masks.proofs.Sets.{in-none}
+use Rattle.model.specs.OneLocation.{readableAt}
+use Rattle.masks.specs.Sets.{In, OneToSix}
 use Rattle.masks.proofs.Codes.{has-itself, insert-fits}
 use Rattle.rows.specs.declared.Row.{Row}
-use Rattle.rows.specs.Rows.{Fine, anyRow, RowOf, Closed}
-use Rattle.rows.proofs.FineRows.{row, fine-any}
-use Rattle.rows.proofs.Lines.{Loads}
+use Rattle.rows.specs.Rows.{state, Fine, anyRow, RowOf, Closed}
+use Rattle.rows.proofs.FineRows.{no-state}
+use Rattle.rows.proofs.Lines.{reads, Loads}
 
 module _ (rest : Row) (i : Machine) (u v : Value) where
   -- Code 0 is fine after the load: it may read memory, and if u is v, a closed row has every code with i.
-  pub from-memory : (a o : ℕ) → OneToSix i → Closed u rest → Fine rest 0 v
-      → Exactly a (λ c. (c ≢ 0) × (u ≡ v)) → Exactly o (λ c. c ≡ 0)
-      → RowOf (Loads rest i u v) (row a o v)
-  from-memory a o six closed fine any one c m h = (
-    ⊎-elim (λ p. inr (one c h .1 (p .0), p .1)) (λ p. inl (any c h .1 (p .0, p .1))),
-    ⊎-elim
-        (λ p. let q = any c h .0 p in inr (q .0, q .1, inl (there (q .1))))
-        (λ p. inl (one c h .0 (p .0), p .1, fine)),
-  )
+  pub from-memory : (r : Row) → OneToSix i → Closed u rest → Fine rest 0 v
+      → RowOf (λ c m. T (readableAt v (state c u m))) r
+      → RowOf (Loads rest i u v) r
+  from-memory r six closed fine readable c m h =
+      let read = Iff·trans (Iff·symm (reads u v c m)) (readable c m h) in (
+        ⊎-elim (λ p. read .0 (inr (p .0, p .1))) (λ p. read .0 (inl (p .0, p .1))),
+        λ f.
+            ⊎-elim
+            (λ p. inr (p .0, p .1, inl (there (p .1))))
+            (λ p. inl (p .0, p .1, fine))
+            (read .1 f),
+      )
     where
       there : u ≡ v → In (insert i c) (rest .any)
       there e =
@@ -41,7 +44,5 @@ module _ (rest : Row) (i : Machine) (u v : Value) where
     )
 
     pub from-nothing : u ≢ v → r ≡ anyRow 0 → RowOf (Loads rest i u v) r
-    from-nothing n none c m h = (
-      ⊎-elim (λ p. absurd (stuck (p .2))) (λ p. absurd (n (p .1))),
-      λ f. absurd (in-none c (fine-any 0 c m .1 (rw none at f))),
-    )
+    from-nothing n =
+        no-state (Loads rest i u v) r (λ c m. ⊎-elim (λ p. absurd (stuck (p .2))) (λ p. absurd (n (p .1))))

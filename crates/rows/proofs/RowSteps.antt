@@ -8,8 +8,8 @@ use mathlib.Core.Bool.{Bool, true, false, cond, not}
 use mathlib.Core.List.{List, _∷_}
 use lib.Dec.{T, eqb}
 use Rattle.model.specs.Cxl0.{Machine, Location, Value, Topology, owner, initial, event}
-use Rattle.model.specs.Cxl0.{Event, LStore, RStore, MStore, Load, LFlush, RFlush, Crash}
-use Rattle.model.specs.OneLocation.{Local, Site, siteOf, machineOf, eventAt, concerns, effect, nextAt}
+use Rattle.model.specs.Cxl0.{Event, LStore, RStore, MStore, Load, LFlush, RFlush, Crash, RMW, Form, L, R, M}
+use Rattle.model.specs.OneLocation.{Local, Site, siteOf, machineOf, eventAt, concerns, effect, nextAt, storedAt, loadedAt}
 use Rattle.model.proofs.Tests.{T→true, not→false}
 use Rattle.model.proofs.Sharers.{remove-le}
 use Rattle.masks.specs.Sets.{OneToSix}
@@ -49,19 +49,30 @@ copy-left k (Load i y v) s = refl
 copy-left k (LFlush i y) s = refl
 copy-left k (RFlush i y) s = refl
 copy-left k (Crash i) s = refl
+copy-left k (RMW L i y v w) s = refl
+copy-left k (RMW R i y v w) s = refl
+copy-left k (RMW M i y v w) s = refl
+
+-- A store by one of machines 1 to 6 leaves a code below 64.
+stored-fits : (k : Site) → OneToSix (k .owner) → (form : Form) (i : Machine) → OneToSix i → (v : Value) (s : Local)
+    → Fits (storedAt k form i v s)
+stored-fits k own L i o v s = insert-fits i 0 o (omega arith)
+stored-fits k own R i o v s = insert-fits (k .owner) 0 own (omega arith)
+stored-fits k own M i o v s = omega arith
 
 -- An event by one of machines 1 to 6 keeps codes below 64.
 pub effect-fits : (k : Site) → OneToSix (k .owner) → (e : Event) → OneToSix (machineOf e) → (s : Local)
     → Fits s → Fits (effect k (event e) s)
 unfolding effect
-effect-fits k own (LStore i y v) o s h = insert-fits i 0 o (omega arith)
-effect-fits k own (RStore i y v) o s h = insert-fits (k .owner) 0 own (omega arith)
-effect-fits k own (MStore i y v) o s h = omega arith
+effect-fits k own (LStore i y v) o s h = stored-fits k own L i o v s
+effect-fits k own (RStore i y v) o s h = stored-fits k own R i o v s
+effect-fits k own (MStore i y v) o s h = stored-fits k own M i o v s
 effect-fits k own (Load i y v) o s h =
     either (λ (c : ℕ). c < 64) (eqb (s .code) 0) (omega arith) (insert-fits i (s .code) o h)
 effect-fits k own (LFlush i y) o s h = h
 effect-fits k own (RFlush i y) o s h = h
 effect-fits k own (Crash i) o s h = lt-of-le-of-lt (remove-le i (s .code)) h
+effect-fits k own (RMW form i y v w) o s h = stored-fits k own form i o w (loadedAt i s)
 
 module _ (sys : Topology) (x : Location) where
   -- The value of the copies of x after an event, and that its code stays below 64.

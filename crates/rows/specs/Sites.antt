@@ -13,7 +13,7 @@ use Rattle.entries.specs.Entries.{siteMeant}
 use Rattle.entries.specs.declared.Site as site
 use Rattle.rows.specs.Rows.{state}
 
--- The operation is one of the seven, and the machine one of 1 to 6: so it is with the events of an accepted log.
+-- The operation is one of the ten, and the machine one of 1 to 6: so it is with the events of an accepted log.
 pub record Known (e : event.Event) : Type 0 where
   pub operation : T (isOperation (e .operation))
   pub machine : OneToSix (e .machine .0)

@@ -3,8 +3,8 @@
 //
 // Internal: only crates of this project call it, and they meet what it requires. A machine's number is 1
 // to 6, a code is below 64, `rest` is closed, and an event is known: its operation is 1 LStore, 2 RStore, 3 MStore,
-// 4 Load, 5 LFlush, 6 RFlush or 7 crash. The reader has refused every other number, so that no event comes to the arms
-// of these, and any value will do there: it is one that takes no test of its own.
+// 4 Load, 5 LFlush, 6 RFlush, 7 crash, 8 L-RMW, 9 R-RMW or 10 M-RMW. The reader has refused every other number, so that
+// no event comes to the arms of these, and any value will do there: it is one that takes no test of its own.
 use entries::Site;
 use masks::all;
 use masks::all_but_empty;
@@ -25,11 +25,11 @@ ghost use Prim.Native.Nat.{ℕ, _<_};
 ghost use Rattle.model.specs.Cxl0.{Load};
 ghost use Rattle.model.specs.Sharers.{has, insert, remove};
 ghost use Rattle.model.specs.OneLocation;
-ghost use Rattle.model.specs.OneLocation.{eventAt};
+ghost use Rattle.model.specs.OneLocation.{eventAt, readableAt};
 ghost use Rattle.model.specs.Meaning.{meant};
 ghost use Rattle.masks.specs.Sets.{In, Exactly, OneToSix};
 ghost use Rattle.entries.specs.Entries.{siteMeant};
-ghost use Rattle.rows.specs.Rows.{Fine, Empty, anyRow, lastRow, RowOf, Closed, Line, Gap};
+ghost use Rattle.rows.specs.Rows.{state, Fine, Empty, anyRow, lastRow, RowOf, Closed, Line, Gap};
 ghost use Rattle.rows.specs.Sites.{Known, copyAfter};
 ghost use Rattle.rows.specs.Steps.{Stepped};
 
@@ -131,6 +131,29 @@ fn load_copies_row(rest: Row, i: Machine) -> Row
     }
 }
 
+// The states in which a load of v is possible, where copies have the value u: from memory if there is no copy, else
+// from the copies.
+fn readable_row(u: u32, v: u32) -> Row
+    ensures { λ r. ⌜ RowOf (λ c m. T (readableAt v (state c u m))) r ⌝ }
+{
+    Row {
+        any: only_if(u == v, all_but_empty()),
+        one: single(0),
+        value: v,
+    }
+}
+
+// Of these, the states with memory value m.
+fn readable_at(u: u32, v: u32, m: u32) -> Row
+    ensures { λ r. ⌜ RowOf (λ c n. T (readableAt v (state c u n)) × (n ≡ m)) r ⌝ }
+{
+    Row {
+        any: 0,
+        one: only_if(u == v, all_but_empty()) | only_if(m == v, single(0)),
+        value: m,
+    }
+}
+
 // A load of v by i: from memory if there is no copy, and that leaves none; else from the copies, of value u.
 // If code 0 is fine after it and u is v, every code but 0 is, since `rest` is closed.
 fn load_row(rest: Row, i: Machine, u: u32, v: u32) -> Row
@@ -139,14 +162,34 @@ fn load_row(rest: Row, i: Machine, u: u32, v: u32) -> Row
     ensures { λ r. ⌜ ((k : OneLocation.Site) (x : ℕ) → RowOf (λ c m. Line k (Load (i .0) x v) u rest c m) r) ⌝ }
 {
     if fine(rest, 0, v) {
-        return Row {
-            any: only_if(u == v, all_but_empty()),
-            one: single(0),
-            value: v,
-        };
+        return readable_row(u, v);
     }
     if u == v {
         return load_copies_row(rest, i);
+    }
+    any_row(0)
+}
+
+// L-RMW and R-RMW that read v: the store, which leaves a copy at one machine, whose code is t, keeps the memory value.
+fn rmw_row(rest: Row, t: u8, u: u32, v: u32) -> Row
+    requires { ⌜ t < 64 ⌝ }
+    ensures { λ r. ⌜ RowOf (λ c m. T (readableAt v (state c u m)) × Fine rest t m) r ⌝ }
+{
+    if contains(rest.any, t) {
+        return readable_row(u, v);
+    }
+    if contains(rest.one, t) {
+        return readable_at(u, v, rest.value);
+    }
+    any_row(0)
+}
+
+// M-RMW that reads v and writes w, which leaves no copy.
+fn m_rmw_row(rest: Row, u: u32, v: u32, w: u32) -> Row
+    ensures { λ r. ⌜ RowOf (λ c m. T (readableAt v (state c u m)) × Fine rest 0 w) r ⌝ }
+{
+    if fine(rest, 0, w) {
+        return readable_row(u, v);
     }
     any_row(0)
 }
@@ -212,6 +255,7 @@ pub fn concerned(site: Site, e: Event) -> bool
     let operation = e.operation;
     match operation {
         1..=6 => site.location.0 == e.location.0,
+        8..=10 => site.location.0 == e.location.0,
         _ => true,
     }
 }
@@ -233,8 +277,11 @@ pub fn row_before(site: Site, e: Event, u: u32, rest: Row) -> Row
         5 => l_flush_row(rest, i),
         6 => r_flush_row(rest),
         7 => crash_row(rest, i, (site.owner.0 == i.0) & site.volatile, site.initial),
+        8 => rmw_row(rest, alone(i), u, e.value),
+        9 => rmw_row(rest, alone(site.owner), u, e.value),
+        10 => m_rmw_row(rest, u, e.value, e.written),
         0 => rest,
-        8..=255 => rest,
+        11..=255 => rest,
     }
 }
 

@@ -1,11 +1,10 @@
 -- `rows::load_row` meets its contract: the load reads memory, or the copies, or is not possible.
 use borrow.Author.Needs.{needs}
 use mathlib.Core.Path.{sym, _∙_}
-use mathlib.Core.Logic.{Iff·trans, Iff·and}
+use mathlib.Core.Logic.{Iff·trans}
 use mathlib.Core.Bool.{cond, true≢false}
 use lib.Dec.{T, eqb}
 use Prim.Native.Nat.{ℕ}
-use borrow.Author.Tests.{eqb-true, eq-eqb}
 use Rattle.model.specs.OneLocation.{enabledAt, effect}
 use Rattle.model.specs.Sharers.{insert}
 use Rattle.rows.specs.declared.Row.{Row}
@@ -29,16 +28,12 @@ load-line rest row i u v r c m h = Iff·trans (loads rest i u v c m) (r c m h)
 returns : tie.Need-returns
 unfolding enabledAt effect
 returns c k x =
-    let then = c .before .before .before in
+    let then = c .before in
     let args = start (then .before) .args in
     let pre = start (then .before) .pre in
-    let some = c .before .before .all-but-empty in
-    let only = c .before .only-if in
     load-line (args .rest) _ (args .i .0) (args .u) (args .v)
-    (from-memory (args .rest) (args .i .0) (args .u) (args .v) (only .result) (c .single .result)
-    (pre .0) (pre .1) (then .before .fine .ensures .0 (then .if1 .taken))
-    (λ d h. Iff·trans (only .ensures d h) (Iff·and (some .ensures d h) (eqb-true _ _, eq-eqb _ _)))
-    (c .single .ensures))
+    (from-memory (args .rest) (args .i .0) (args .u) (args .v) (c .readable-row .result)
+    (pre .0) (pre .1) (then .before .fine .ensures .0 (then .if1 .taken)) (c .readable-row .ensures))
 
 returns-2 : tie.Need-returns-2
 unfolding enabledAt effect
@@ -62,8 +57,6 @@ pub load-row-spec : {M : Type 1} → statement M
 load-row-spec =
     tie.close
     (tie.spec
-    (λ c κs. search needs)
-    (λ c κs. search needs)
     (λ c κs. search needs)
     (λ c κs. search needs)
     returns

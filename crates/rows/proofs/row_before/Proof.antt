@@ -57,12 +57,30 @@ unfolding eventOf enabledAt effect crashes
 returns-7 c =
     rw (c .before .before .before .before .match .keys7) (λ d m h. line-any (c .crash-row .ensures d m h))
 
--- No operation has another number.
 returns-8 : tie.Need-returns-8
-returns-8 c = absurd (omega (arith, operation-range (c .before .before .pre .1 .0 .operation)))
+unfolding eventOf enabledAt effect
+returns-8 c =
+    let key = c .before .before .match .keys8 in
+    let row = rw (c .before .alone3 .ensures .0) at (c .rmw-row .ensures) in
+    rw key row
 
 returns-9 : tie.Need-returns-9
-returns-9 c = absurd (no-other (c .before .before .pre .1 .0 .operation) (c .match .rest))
+unfolding eventOf enabledAt effect
+returns-9 c =
+    let key = c .before .before .match .keys9 in
+    let row = rw (c .before .alone4 .ensures .0) at (c .rmw-row2 .ensures) in
+    rw key row
+
+returns-10 : tie.Need-returns-10
+unfolding eventOf enabledAt effect
+returns-10 c = rw (c .before .match .keys10) (c .m-rmw-row .ensures)
+
+-- No operation has another number.
+returns-11 : tie.Need-returns-11
+returns-11 c = absurd (omega (arith, operation-range (c .before .before .pre .1 .0 .operation)))
+
+returns-12 : tie.Need-returns-12
+returns-12 c = absurd (no-other (c .before .before .pre .1 .0 .operation) (c .match .rest))
 
 pub row-before-spec : {M : Type 1} → statement M
 row-before-spec =
@@ -77,6 +95,11 @@ row-before-spec =
     (λ c κs. search needs)
     (λ c κs. search needs)
     (λ c κs. search needs)
+    (λ c κs. search needs)
+    (λ c κs. search needs)
+    (λ c κs. search needs)
+    (λ c κs. search needs)
+    (λ c κs. search needs)
     returns
     returns-2
     returns-3
@@ -85,4 +108,7 @@ row-before-spec =
     returns-6
     returns-7
     returns-8
-    returns-9)
+    returns-9
+    returns-10
+    returns-11
+    returns-12)
