@@ -40,14 +40,15 @@ NEXT-OWN = 256 * INDEX
 abbrev pub NEXT-CRASH : ℕ
 NEXT-CRASH = 256 * NEXT-OWN
 
--- Event j: operation, machine and location in one word, the value in the next. As an event, and as the program's
--- struct.
+-- Event j: operation, machine and location in one word, the two values in the next, that of a read-modify-write's store
+-- in its upper half. As an event, and as the program's struct.
 unfoldable pub eventIn : List ℕ → ℕ → Event
 eventIn w j =
     eventOf (getD w (EVENTS + 2 * j) 0 % 256)
     (getD w (EVENTS + 2 * j) 0 / MACHINE % 256)
     (getD w (EVENTS + 2 * j) 0 / LOCATION % 256)
     (getD w (EVENTS + 2 * j + 1) 0 % U32)
+    (getD w (EVENTS + 2 * j + 1) 0 / U32 % U32)
 
 abbrev pub structIn : List ℕ → ℕ → event.Event
 structIn w j =
@@ -56,6 +57,7 @@ structIn w j =
       machine = record { 0 = getD w (EVENTS + 2 * j) 0 / MACHINE % 256 };
       location = record { 0 = getD w (EVENTS + 2 * j) 0 / LOCATION % 256 };
       value = getD w (EVENTS + 2 * j + 1) 0 % U32;
+      written = getD w (EVENTS + 2 * j + 1) 0 / U32 % U32;
     }
 
 -- Events j to j + m - 1.

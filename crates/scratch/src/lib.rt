@@ -55,9 +55,9 @@ pub const NEXT_OWN: u64 = 256 * INDEX;
 
 pub const NEXT_CRASH: u64 = 256 * NEXT_OWN;
 
-// How many values 32 bits have. A waypoint has its code in the lowest byte of a word, its memory value in the next four
+// How many values 32 bits have. The second word of an event has two of them. A waypoint has its code in the lowest byte of a word, its memory value in the next four
 // and where its steps end above them.
-const U32: u64 = 1 << 32;
+pub const U32: u64 = 1 << 32;
 
 const STEPS_END: u64 = 256 * U32;
 
@@ -84,12 +84,13 @@ pub fn get_event(w: &[u64], j: usize) -> Event
 {
     let at = EVENTS + 2 * j;
     let word = w[at];
-    let value = w[at + 1];
+    let values = w[at + 1];
     Event {
         operation: (word % 256) as u8,
         machine: Machine((word / MACHINE % 256) as u8),
         location: Location((word / LOCATION % 256) as u8),
-        value: (value % U32) as u32,
+        value: (values % U32) as u32,
+        written: (values / U32 % U32) as u32,
     }
 }
 
