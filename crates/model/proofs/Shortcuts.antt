@@ -1,10 +1,10 @@
--- For each false shortcut of document 01 that concerns the model, a list of actions that tells it from CXL0: the list
--- is a run, or is none, by computation from the definitions alone.
+-- For each false shortcut of document 01, and of request W-201, that concerns the model, a list of actions that tells it
+-- from CXL0: the list is a run, or is none, by computation from the definitions alone.
 use mathlib.Core.Bool.{Bool, true, false, not, _&&_}
 use mathlib.Core.List.{List, [], _∷_}
 use lib.Dec.{T}
 use Rattle.model.specs.Cxl0.{isMachine, isLocation, owner, initial, start, someMachine, everyMachine, cached}
-use Rattle.model.specs.Cxl0.{LStore, MStore, Load, LFlush, Crash, Propagate, WriteBack}
+use Rattle.model.specs.Cxl0.{LStore, MStore, Load, LFlush, Crash, RMW, L, R, M, Propagate, WriteBack}
 use Rattle.model.specs.Cxl0.{Topology, Action, event, silent, crashes, clears, named, enabled, next}
 use Rattle.model.specs.Cxl0.{possible, runs}
 use Rattle.model.specs.MarkedLogs.{three, persistent, volatile, L0}
@@ -37,6 +37,18 @@ cases =
     (event (LStore 1 L0 1) ∷ event (Load 2 L0 1) ∷ silent (WriteBack L0) ∷ event (LFlush 2 L0) ∷ event (Crash 2)
     ∷ event (Load 1 L0 1) ∷ [])
     false
+    -- A read-modify-write that lets a write-back in between: the value that it read would be in memory.
+    ∷ case (persistent (2 ∷ []))
+    (event (LStore 1 L0 1) ∷ event (RMW L 1 L0 1 2) ∷ event (Crash 1) ∷ event (Load 2 L0 1) ∷ [])
+    false
+    -- One that does not compare the value that it reads: a ticket would be taken twice.
+    ∷ case (persistent (2 ∷ []))
+    (event (RMW M 1 L0 0 1) ∷ event (RMW M 2 L0 0 1) ∷ [])
+    false
+    -- An R form that stores in the storing machine's cache: the value would be lost with that machine.
+    ∷ case (persistent (2 ∷ []))
+    (event (RMW R 1 L0 0 1) ∷ event (Crash 1) ∷ event (Load 2 L0 1) ∷ [])
+    true
     ∷ []
 
 unfoldable pub as-said : Bool → Bool → Bool
