@@ -48,3 +48,23 @@ impl Corpus {
         logs
     }
 }
+
+#[cfg(test)]
+mod tests {
+    use super::CORPORA;
+
+    /// The times of one version are compared with those of another, so the logs must stay. This is their FNV-1a hash.
+    #[test]
+    fn the_logs_are_those_of_other_versions() {
+        let hashes = CORPORA.map(|corpus| {
+            let bytes = corpus.logs().concat();
+            bytes
+                .iter()
+                .fold(0xcbf2_9ce4_8422_2325, |hash: u64, &byte| (hash ^ u64::from(byte)).wrapping_mul(0x100_0000_01b3))
+        });
+        assert_eq!(
+            hashes,
+            [0xdddc_9313_cc33_9d4a, 0xc2db_c08d_862b_2bf4, 0xeced_4355_b4f4_ebc3, 0x597d_fbf9_9a38_9430]
+        );
+    }
+}

@@ -16,7 +16,7 @@ const KINDS: [Kind; 6] = [
     ("3 random", 50_000, any),
     ("4 near the limits", 20_000, limit),
     ("5 bytes damaged at random", 50_000, damaged),
-    ("6 like litmus tests, the last load of any value", 150_000, |random| encode(&litmus(random))),
+    ("6 like litmus tests, the last read of any value", 150_000, |random| encode(&litmus(random))),
 ];
 
 const SMALL: &str = "7 every log of three events or fewer, two machines, one location, two values";
@@ -79,8 +79,8 @@ fn limit(random: &mut Random) -> Vec<u8> {
         0 => {
             shape.events = 128;
             let mut log = plausible(random, &shape);
-            let extra = random.below(3);
-            log.events.extend((0..extra).map(|_| crash(1)));
+            let more = Event { operation: *random.pick(&[Operation::Crash, Operation::LRmw]), ..crash(1) };
+            log.events.extend(vec![more; random.below(3)]);
             encode(&log)
         }
         1 => {
@@ -97,7 +97,7 @@ fn limit(random: &mut Random) -> Vec<u8> {
         3 => cornered(random, &shape),
         4 => {
             let bytes = encode(&plausible(random, &shape));
-            let tails: [&[u8]; 4] = [&[0], &[4, 0, 0], &[3, 5], &[0xff; 9]];
+            let tails: [&[u8]; 5] = [&[0], &[4, 0, 0], &[3, 5], &[5, 7, 0], &[0xff; 9]];
             [&bytes, *random.pick(&tails)].concat()
         }
         5 => {
@@ -110,33 +110,47 @@ fn limit(random: &mut Random) -> Vec<u8> {
 }
 
 fn crash(machine: u8) -> Event {
-    Event { operation: Operation::Crash, machine, location: 0, value: 0 }
+    Event { operation: Operation::Crash, machine, location: 0, value: 0, written: 0 }
 }
 
-/// One event whose bytes are at the edge of what the head allows.
+/// One event whose bytes are at the edge of what the head allows; now and then the tag or the length is that of the
+/// other kind of event.
 fn cornered(random: &mut Random, shape: &Shape) -> Vec<u8> {
     let mut log = plausible(random, shape);
     log.events.truncate(127);
     let near = |random: &mut Random, limit: usize| (limit + random.below(2)) as u8;
-    let operation = random.below(9) as u8;
+    let operation = random.below(12) as u8;
     let machine = if random.percent(70) { log.machines } else { near(random, log.machines.into()) };
     let unused = |random: &mut Random| random.below(8) as u8 / 7;
     let location = if operation == 7 { unused(random) } else { near(random, log.owners.len().saturating_sub(1)) };
-    let value = if operation < 5 { [random.byte(), random.byte()] } else { [unused(random), unused(random)] };
+    let value = match operation {
+        5..=7 => [unused(random), unused(random)],
+        _ => [random.byte(), random.byte()],
+    };
+    let payload = [operation, machine, location, value[0], value[1], random.byte(), random.byte()];
+    let rmw = (8..=10).contains(&operation) ^ random.percent(10);
+    let (tag, right, other) = if rmw { (5, 7, 5) } else { (3, 5, 7) };
+    let length = if random.percent(95) { right } else { other };
     let bytes = encode(&log);
     let open = &bytes[..bytes.len() - 3];
-    let event = field(3, &[operation, machine, location, value[0], value[1]]);
-    [open, &event, &field(4, &[])].concat()
+    [open, &field(tag, &payload[..length]), &field(4, &[])].concat()
 }
 
-/// Stores by others, each flushed to memory or handed on: as many silent steps as events can force, and more.
+/// Stores by others, alone or in read-modify-writes, each flushed to memory or handed on: as many silent steps as events
+/// can force, and more.
 fn long_schedule(random: &mut Random) -> Vec<u8> {
     let machines = random.between(2, 6) as u8;
+    let rmws = *random.pick(&[0, 50, 100]);
     let mut log = Log { machines, persistent: 0, owners: vec![1], events: Vec::new() };
+    let mut last = 0;
     while log.events.len() < 124 {
         let value = log.events.len() as u16;
-        let event = |operation, machine, value| Event { operation, machine, location: 0, value };
-        log.events.push(event(Operation::LStore, 2, value));
+        let event = |operation, machine, value| Event { operation, machine, location: 0, value, written: 0 };
+        log.events.push(match random.percent(rmws) {
+            true => Event { written: value, ..event(Operation::LRmw, 2, last) },
+            false => event(Operation::LStore, 2, value),
+        });
+        last = value;
         for machine in 3..=random.between(2, usize::from(machines)) as u8 {
             log.events.push(event(Operation::Load, machine, value));
         }
@@ -147,7 +161,7 @@ fn long_schedule(random: &mut Random) -> Vec<u8> {
     encode(&log)
 }
 
-/// A field whose length is one off, or whose high byte is set.
+/// A field whose length is one off, or whose high byte is set, or an event with the length or the tag of the other kind.
 fn wrong_length(random: &mut Random, shape: &Shape) -> Vec<u8> {
     let mut bytes = encode(&plausible(random, shape));
     let mut ends = Vec::new();
@@ -157,9 +171,11 @@ fn wrong_length(random: &mut Random, shape: &Shape) -> Vec<u8> {
         at += 3 + usize::from(bytes[at + 1]);
     }
     let at = *random.pick(&ends);
-    match random.below(3) {
+    match random.below(5) {
         0 => bytes[at + 1] ^= 1,
         1 => bytes[at + 2] = 1,
+        2 => bytes[at + 1] ^= 5 ^ 7,
+        3 => bytes[at] ^= 3 ^ 5,
         _ => bytes[at + 1] = bytes[at + 1].wrapping_sub(1),
     }
     bytes
@@ -171,7 +187,9 @@ fn small(mut compare: impl FnMut(&[u8])) {
     for operation in Operation::ALL.into_iter().filter(|operation| operation.uses_location()) {
         let values = if operation.uses_value() { 0..=1 } else { 0..=0 };
         for value in values {
-            events.extend([1, 2].map(|machine| Event { operation, machine, location: 0, value }));
+            for written in if operation.is_rmw() { 0..=1 } else { 0..=0 } {
+                events.extend([1, 2].map(|machine| Event { operation, machine, location: 0, value, written }));
+            }
         }
     }
     // The machines are alike, so one owner is enough.

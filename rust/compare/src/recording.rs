@@ -11,7 +11,7 @@ use crate::{expected, proved};
 pub fn compare(log: &[u8], records: Option<&Log>, random: &mut Random, report: &mut Report) {
     for _ in 0..2 {
         let used = used_count(log, random);
-        let spare = random.below(12);
+        let spare = random.below(14);
         let mut buffer = log.to_vec();
         buffer.truncate(used.max(random.below(log.len() + 1)) + spare);
         buffer.extend((0..spare).map(|_| random.byte()));
@@ -50,7 +50,7 @@ fn used_count(log: &[u8], random: &mut Random) -> usize {
 
 /// A field that is right, or nearly so.
 fn some_field(random: &mut Random) -> (u8, Vec<u8>) {
-    let tag = random.between(1, 4) as u8;
+    let tag = random.between(1, 5) as u8;
     let small = |random: &mut Random, most: usize| random.below(most + 1) as u8;
     let mut payload = match tag {
         1 => vec![small(random, 7), small(random, 63)],
@@ -61,13 +61,22 @@ fn some_field(random: &mut Random) -> (u8, Vec<u8>) {
             let location = if operation == 7 { random.below(20) as u8 / 19 } else { small(random, 3) };
             vec![operation, small(random, 7), location, value, small(random, 1) * (value & 1)]
         }
+        5 => {
+            let mut payload = vec![random.between(7, 11) as u8, small(random, 7), small(random, 3)];
+            payload.extend((0..4).map(|_| random.byte()));
+            payload
+        }
         _ => vec![],
     };
     match random.below(20) {
         0 => payload.push(0),
         1 => drop(payload.pop()),
         2 => return (random.byte(), payload),
-        3 => payload = vec![0; *random.pick(&[65535, 65536, 65538, 65541])],
+        3 => payload = vec![0; *random.pick(&[65535, 65536, 65538, 65541, 65543])],
+        // The tag, the length or the operations of the other kind of event.
+        4 => return (8 - tag, payload),
+        5 if tag == 3 || tag == 5 => payload.resize(12 - payload.len(), 0),
+        6 if tag == 3 || tag == 5 => payload[0] = payload[0].abs_diff(11),
         _ => {}
     }
     (tag, payload)

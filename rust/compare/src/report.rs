@@ -14,6 +14,8 @@ pub struct Verdicts {
     pub allowed: usize,
     pub impossible: usize,
     pub refused: BTreeMap<u8, usize>,
+    /// Accepted logs that have a read-modify-write.
+    pub with_rmw: usize,
 }
 
 /// Counts of all that was compared.
@@ -57,10 +59,11 @@ impl Report {
 
     pub fn print(&self) {
         for (kind, verdicts) in &self.kinds {
-            let Verdicts { allowed, impossible, refused } = verdicts;
+            let Verdicts { allowed, impossible, refused, with_rmw } = verdicts;
             let turned_away: usize = refused.values().sum();
             println!("{kind}: {} logs", allowed + impossible + turned_away);
             println!("    {allowed} allowed, {impossible} impossible, {turned_away} refused{}", numbers(refused));
+            println!("    {with_rmw} of the accepted with read-modify-writes");
         }
         println!(
             "{} schedules replayed by both sides, {} silent steps, at most {} in one",

@@ -108,6 +108,7 @@ fn judged(
             return Vec::new();
         }
     };
+    verdicts.with_rmw += usize::from(records.events.iter().any(|event| event.operation.is_rmw()));
     let verdict = second::judge(records);
     match &verdict {
         Verdict::Impossible(event) => {

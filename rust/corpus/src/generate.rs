@@ -22,7 +22,7 @@ pub struct Shape {
     pub operations: &'static [Operation],
 }
 
-/// All operations, loads most often.
+/// All operations but read-modify-writes, loads most often. The benchmark's logs are made of these.
 pub const MIXED: &[Operation] = &[
     Operation::LStore,
     Operation::RStore,
@@ -37,6 +37,44 @@ pub const MIXED: &[Operation] = &[
 /// Operations that leave values in caches, where silent steps decide what becomes of them.
 pub const CACHED: &[Operation] =
     &[Operation::LStore, Operation::LStore, Operation::RStore, Operation::Load, Operation::Load, Operation::LFlush];
+
+/// All operations, a third of them read-modify-writes.
+pub const MIXED_RMW: &[Operation] = &[
+    Operation::LStore,
+    Operation::RStore,
+    Operation::MStore,
+    Operation::Load,
+    Operation::Load,
+    Operation::LFlush,
+    Operation::RFlush,
+    Operation::LRmw,
+    Operation::LRmw,
+    Operation::RRmw,
+    Operation::MRmw,
+];
+
+/// As [`CACHED`], with the read-modify-writes that leave values in caches.
+pub const CACHED_RMW: &[Operation] = &[
+    Operation::LStore,
+    Operation::RStore,
+    Operation::Load,
+    Operation::Load,
+    Operation::LFlush,
+    Operation::LRmw,
+    Operation::LRmw,
+    Operation::RRmw,
+];
+
+/// What happens in a log beside crashes, with read-modify-writes in every second one: mixed in so many of a hundred
+/// cases, else what leaves values in caches.
+pub fn some_operations(random: &mut Random, mixed: usize) -> &'static [Operation] {
+    match (random.percent(mixed), random.percent(50)) {
+        (true, false) => MIXED,
+        (true, true) => MIXED_RMW,
+        (false, false) => CACHED,
+        (false, true) => CACHED_RMW,
+    }
+}
 
 impl Shape {
     /// Some shape within the limits, small ones and large ones.
@@ -53,7 +91,7 @@ impl Shape {
             events,
             crashes: *random.pick(&[0, 5, 15, 30, 70]),
             values: *random.pick(&[2, 3, 5, 65536]),
-            operations: if random.percent(70) { MIXED } else { CACHED },
+            operations: some_operations(random, 70),
         }
     }
 
@@ -78,16 +116,17 @@ impl Shape {
             _ => random.between(1, self.machines) as u8,
         };
         if owners.is_empty() || random.percent(self.crashes) {
-            return Event { operation: Operation::Crash, machine, location: 0, value: 0 };
+            return Event { operation: Operation::Crash, machine, location: 0, value: 0, written: 0 };
         }
         let operation = *random.pick(self.operations);
         let value = random.below(self.values) as u16;
-        Event { operation, machine, location, value: if operation.uses_value() { value } else { 0 } }
+        let written = if operation.is_rmw() { random.below(self.values) as u16 } else { 0 };
+        Event { operation, machine, location, value: if operation.uses_value() { value } else { 0 }, written }
     }
 }
 
-/// A log by simulating the system: random silent steps between the events, and each load returns what it finds. It is
-/// allowed.
+/// A log by simulating the system: random silent steps between the events, and each load and each read-modify-write
+/// returns what it finds. It is allowed.
 pub fn plausible(random: &mut Random, shape: &Shape) -> Log {
     let mut log = shape.head(random);
     let mut system = System::start(&log);
@@ -100,7 +139,7 @@ pub fn plausible(random: &mut Random, shape: &Shape) -> Log {
         }
         let mut event = shape.event(random, &log.owners);
         match event.operation {
-            Operation::Load => event.value = system.visible(event.location),
+            operation if operation.reads() => event.value = system.visible(event.location),
             Operation::LFlush | Operation::RFlush => settle(&mut system, &log, &event),
             _ => {}
         }
@@ -125,10 +164,10 @@ fn settle(system: &mut System, log: &Log, flush: &Event) {
     }
 }
 
-/// The same log with another value in one of its loads, if it has one.
+/// The same log with another value read in one of its loads or read-modify-writes, if it has one.
 pub fn change_one_load(random: &mut Random, log: &Log, values: usize) -> Log {
     let mut changed = log.clone();
-    let loads: Vec<usize> = (0..log.events.len()).filter(|&e| log.events[e].operation == Operation::Load).collect();
+    let loads: Vec<usize> = (0..log.events.len()).filter(|&e| log.events[e].operation.reads()).collect();
     if !loads.is_empty() {
         let event = &mut changed.events[*random.pick(&loads)];
         let other = random.below(values) as u16;
@@ -137,8 +176,8 @@ pub fn change_one_load(random: &mut Random, log: &Log, values: usize) -> Log {
     changed
 }
 
-/// A log like a litmus test: a short run with values in caches and crashes, and then a load of a value that was stored
-/// or of 0. Whether that load can be explained hangs on the silent steps before it.
+/// A log like a litmus test: a short run with values in caches and crashes, and then a load, or now and then a
+/// read-modify-write, of a value that was stored or of 0. Whether it can be explained hangs on the silent steps before.
 pub fn litmus(random: &mut Random) -> Log {
     let shape = Shape {
         machines: random.between(2, 4),
@@ -146,15 +185,20 @@ pub fn litmus(random: &mut Random) -> Log {
         events: random.between(2, 10),
         crashes: 25,
         values: 3,
-        operations: if random.percent(20) { MIXED } else { CACHED },
+        operations: some_operations(random, 20),
     };
     let mut log = plausible(random, &shape);
     let location = random.below(shape.locations) as u8;
-    let stored = log.events.iter().filter(|event| event.operation.is_store() && event.location == location);
-    let mut values: Vec<u16> = stored.map(|event| event.value).collect();
+    let here = log.events.iter().filter(|event| event.location == location);
+    let mut values: Vec<u16> = here.filter_map(Event::stored).collect();
     values.push(0);
     let machine = random.between(1, shape.machines) as u8;
-    log.events.push(Event { operation: Operation::Load, machine, location, value: *random.pick(&values) });
+    let mut last = Event { operation: Operation::Load, machine, location, value: *random.pick(&values), written: 0 };
+    if random.percent(15) {
+        last.operation = *random.pick(&[Operation::LRmw, Operation::RRmw, Operation::MRmw]);
+        last.written = random.below(shape.values) as u16;
+    }
+    log.events.push(last);
     log
 }
 
@@ -171,7 +215,7 @@ pub fn damage(random: &mut Random, bytes: &[u8]) -> Vec<u8> {
     for _ in 0..random.between(1, 3) {
         let at = random.below(bytes.len() + 1);
         // A small number is likelier to be something that the format knows.
-        let byte = if random.percent(50) { random.below(9) as u8 } else { random.byte() };
+        let byte = if random.percent(50) { random.below(12) as u8 } else { random.byte() };
         match random.below(5) {
             0 | 1 if at < bytes.len() => bytes[at] = byte,
             2 if at < bytes.len() => {

@@ -6,6 +6,6 @@ pub mod marked;
 mod random;
 
 pub use encode::encode;
-pub use generate::{change_one_load, damage, litmus, plausible, random_log, random_schedule};
-pub use generate::{Shape, CACHED, MIXED};
+pub use generate::{change_one_load, damage, litmus, plausible, random_log, random_schedule, some_operations};
+pub use generate::{Shape, MIXED};
 pub use random::Random;

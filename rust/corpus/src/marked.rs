@@ -19,8 +19,13 @@ fn marked(
     events: &[(Operation, u8, u8, u16)],
     impossible: Option<u8>,
 ) -> Marked {
-    let events =
-        events.iter().map(|&(operation, machine, location, value)| Event { operation, machine, location, value });
+    let events = events.iter().map(|&(operation, machine, location, value)| Event {
+        operation,
+        machine,
+        location,
+        value,
+        written: 0,
+    });
     Marked {
         name,
         log: Log {

@@ -21,6 +21,9 @@ impl Local {
 
     /// The state after an event of this location other than a crash, or nothing if it is not possible.
     pub(crate) fn apply(&self, event: &Event, owner: u8) -> Option<Local> {
+        if let Some([load, store]) = event.load_and_store() {
+            return self.apply(&load, owner)?.apply(&store, owner);
+        }
         let (i, v) = (event.machine, event.value);
         match event.operation {
             Operation::LStore => Some(Local::holding(i, v, self.memory)),
@@ -31,6 +34,7 @@ impl Local {
             Operation::LFlush => self.cache(i).is_none().then_some(*self),
             Operation::RFlush => (self.holders == 0).then_some(*self),
             Operation::Crash => unreachable!("a crash is no event of one location"),
+            Operation::LRmw | Operation::RRmw | Operation::MRmw => unreachable!("a load and a store, above"),
         }
     }
 

@@ -1,4 +1,4 @@
-//! The whole system: its state, the seven events and the two silent steps, word for word, and replay.
+//! The whole system: its state, the events and the two silent steps, word for word, and replay.
 
 use crate::{log, read_schedule, Event, Log, Operation, Refusal, Step};
 
@@ -58,6 +58,9 @@ impl System {
             self.crash(log, event.machine);
             return true;
         }
+        if let Some([load, store]) = event.load_and_store() {
+            return self.apply(log, &load) && self.apply(log, &store);
+        }
         let x = usize::from(event.location);
         let k = usize::from(log.owners[x] - 1);
         let v = event.value;
@@ -79,7 +82,7 @@ impl System {
             Operation::Load => return self.memory[x] == v,
             Operation::LFlush => return self.caches[i][x].is_none(),
             Operation::RFlush => return !cached,
-            Operation::Crash => unreachable!("handled above"),
+            Operation::Crash | Operation::LRmw | Operation::RRmw | Operation::MRmw => unreachable!("handled above"),
         }
         true
     }

@@ -32,12 +32,21 @@ fn tags_in_order() {
     assert_eq!(number(&field(4, &[])), 3);
     assert_eq!(number(&log_of(&[(1, &[2, 3])])), 3);
     assert_eq!(number(&log_of(&[event, (2, &[1])])), 3);
-    assert_eq!(number(&log_of(&[(5, &[])])), 3);
+    assert_eq!(number(&log_of(&[(6, &[])])), 3);
     assert_eq!(number(&log_of(&[event, (4, &[])])), 0);
+    // A read-modify-write may stand where an event may.
+    let rmw: (u8, &[u8]) = (5, &[8, 1, 0, 0, 0, 1, 0]);
+    assert_eq!(number(&field(5, rmw.1)), 3);
+    assert_eq!(number(&log_of(&[rmw, (2, &[1])])), 3);
+    assert_eq!(number(&log_of(&[event, rmw, event, rmw, (4, &[])])), 0);
     // The tag comes before the length, and the length before a payload that is not whole.
     assert_eq!(number(&[2, 0xff, 0xff]), 3);
     assert_eq!(number(&[1, 0xff, 0xff]), 4);
     assert_eq!(number(&[1, 2, 0, 9]), 2);
+    assert_eq!(number(&[5, 0xff, 0xff]), 3);
+    assert_eq!(number(&log_of(&[(5, &[8, 1, 0, 0, 0])])), 4);
+    assert_eq!(number(&log_of(&[(3, &[1, 1, 0, 0, 0, 0, 0])])), 4);
+    assert_eq!(number(&[log_of(&[]), vec![5, 7, 0, 0, 0, 0, 0, 0, 0]].concat()), 2);
 }
 
 #[test]
@@ -55,6 +64,9 @@ fn contents_of_events_from_left_to_right() {
     for (payload, expected) in [
         ([0, 1, 0, 0, 0], 8),
         ([8, 0, 9, 1, 1], 8),
+        ([9, 1, 0, 0, 0], 8),
+        ([10, 1, 0, 0, 0], 8),
+        ([11, 1, 0, 0, 0], 8),
         ([7, 1, 0, 0, 0], 0),
         ([7, 0, 1, 1, 1], 9),
         ([7, 3, 1, 1, 1], 9),
@@ -68,6 +80,22 @@ fn contents_of_events_from_left_to_right() {
     ] {
         assert_eq!(number(&log_of(&[(3, &payload), (4, &[])])), expected, "{payload:?}");
     }
+    for (payload, expected) in [
+        ([0, 0, 9, 0, 0, 0, 0], 8),
+        ([1, 0, 9, 0, 0, 0, 0], 8),
+        ([4, 1, 0, 0, 0, 0, 0], 8),
+        ([7, 1, 0, 0, 0, 0, 0], 8),
+        ([11, 1, 0, 0, 0, 0, 0], 8),
+        ([255, 1, 0, 0, 0, 0, 0], 8),
+        ([8, 0, 1, 0, 0, 0, 0], 9),
+        ([9, 3, 1, 0, 0, 0, 0], 9),
+        ([10, 1, 1, 0, 0, 0, 0], 10),
+        ([8, 1, 0, 255, 255, 255, 255], 0),
+        ([9, 1, 0, 0, 0, 0, 0], 0),
+        ([10, 2, 0, 1, 0, 0, 1], 0),
+    ] {
+        assert_eq!(number(&log_of(&[(5, &payload), (4, &[])])), expected, "{payload:?}");
+    }
     assert_eq!(number(&[field(1, &[2, 3]), field(2, &[0])].concat()), 6);
     assert_eq!(number(&[field(1, &[2, 3]), field(2, &[3])].concat()), 6);
 }
@@ -80,8 +108,12 @@ fn nothing_after_the_end() {
 }
 
 fn crashes(locations: usize, events: usize) -> Log {
-    let crash = Event { operation: Operation::Crash, machine: 1, location: 0, value: 0 };
+    let crash = Event { operation: Operation::Crash, machine: 1, location: 0, value: 0, written: 0 };
     Log { machines: 6, persistent: 0, owners: vec![6; locations], events: vec![crash; events] }
+}
+
+fn rmw(operation: Operation, value: u16, written: u16) -> Event {
+    Event { operation, machine: 1, location: 0, value, written }
 }
 
 #[test]
@@ -95,6 +127,27 @@ fn counts_at_their_limits() {
     assert_eq!(number(&[open, &[2, 0, 0]].concat()), 7);
 }
 
+/// Events and read-modify-writes are counted together.
+#[test]
+fn the_129th_of_both_kinds() {
+    let longest = Log { events: vec![rmw(Operation::LRmw, 1, 1); 128], ..crashes(32, 0) };
+    let bytes = encode(&longest);
+    assert_eq!((number(&bytes), bytes.len()), (0, 1416));
+    for mut log in [longest, crashes(32, 128)] {
+        // Every second one is of the other kind; then one more, of either kind.
+        for event in log.events.iter_mut().step_by(2) {
+            *event =
+                if event.operation == Operation::Crash { rmw(Operation::MRmw, 1, 1) } else { crashes(0, 1).events[0] };
+        }
+        let full = encode(&log);
+        assert_eq!(number(&full), 0);
+        let open = &full[..full.len() - 3];
+        for more in [[3, 5, 0], [5, 7, 0], [5, 0, 0]] {
+            assert_eq!(number(&[open, &more].concat()), 7, "{more:?}");
+        }
+    }
+}
+
 #[test]
 fn recorder() {
     let mut buffer = [0xaa; 16];
@@ -106,10 +159,16 @@ fn recorder() {
     assert_eq!(record(&mut buffer, 4, 2, &[2]), Err(Refusal(2)));
     assert_eq!(record(&mut buffer, 5, 2, &[2]), Ok(9));
     assert_eq!(record(&mut buffer, 9, 3, &[8, 1, 0, 0, 0]), Err(Refusal(8)));
+    assert_eq!(record(&mut buffer, 9, 5, &[7, 1, 0, 0, 0, 0, 0]), Err(Refusal(8)));
     assert_eq!(record(&mut buffer, 9, 3, &[7, 1, 0, 0, 0]), Err(Refusal(1)));
+    assert_eq!(record(&mut buffer, 9, 5, &[8, 1, 0, 0, 0, 1, 0]), Err(Refusal(1)));
     assert_eq!(record(&mut buffer, 9, 4, &[]), Ok(12));
     assert_eq!(record(&mut buffer, 12, 4, &[]), Err(Refusal(12)));
     assert_eq!(record(&mut buffer, 15, 4, &[]), Err(Refusal(12)));
+    let mut buffer = [0xaa; 20];
+    buffer[..9].copy_from_slice(&log_of(&[]));
+    assert_eq!(record(&mut buffer, 9, 5, &[10, 2, 0, 1, 2, 3, 4]), Ok(19));
+    assert_eq!(buffer[9..], [5, 7, 0, 10, 2, 0, 1, 2, 3, 4, 0xaa]);
 }
 
 #[test]
@@ -128,8 +187,7 @@ fn lent_buffers_come_first() {
 }
 
 /// A schedule that hands a copy on and writes it back after each store: two steps for each of 128 stores.
-fn longest() -> (Log, Vec<Step>) {
-    let store = Event { operation: Operation::LStore, machine: 1, location: 0, value: 1 };
+fn longest(store: Event) -> (Log, Vec<Step>) {
     let log = Log { machines: 2, persistent: 3, owners: vec![2], events: vec![store; 128] };
     let both = |before| [1, 0].map(|machine| Step { before, location: 0, machine });
     (log, (1..=128).flat_map(both).collect())
@@ -137,7 +195,12 @@ fn longest() -> (Log, Vec<Step>) {
 
 #[test]
 fn steps_up_to_256() {
-    let (log, mut steps) = longest();
+    up_to_256(rmw(Operation::LRmw, 0, 0));
+    up_to_256(Event { operation: Operation::LStore, machine: 1, location: 0, value: 1, written: 0 });
+}
+
+fn up_to_256(store: Event) {
+    let (log, mut steps) = longest(store);
     let bytes = encode(&log);
     let file = |steps: &[Step]| second::verdict_file::write(&Verdict::Allowed(steps.to_vec()));
     assert_eq!((steps.len(), log.steps_most(), file(&steps).len()), (256, 256, FILE_MOST));

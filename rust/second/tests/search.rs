@@ -1,6 +1,6 @@
 //! The search of one location at a time against the search over the whole system, and against simulation.
 
-use corpus::{change_one_load, encode, litmus, plausible, random_log, Random, Shape, CACHED, MIXED};
+use corpus::{change_one_load, encode, litmus, plausible, random_log, some_operations, Random, Shape};
 use second::{judge, read, replay, whole, Log, Replayed, Verdict};
 
 fn small(random: &mut Random) -> Shape {
@@ -10,7 +10,7 @@ fn small(random: &mut Random) -> Shape {
         events: random.below(9),
         crashes: 25,
         values: 3,
-        operations: if random.percent(50) { MIXED } else { CACHED },
+        operations: some_operations(random, 50),
     }
 }
 
