@@ -1,8 +1,8 @@
 //! A proved judge of CXL0 logs.
 //!
-//! A log is a row of loads, stores, flushes and crashes of a Compute Express Link shared-memory system. The judge says
-//! whether some choice of silent steps, copies that move between caches and to memory, explains it. The four calls are
-//! those of the proved library with typed answers; [`Judge`] keeps the buffers that judging needs.
+//! A log is a row of loads, stores, read-modify-writes, flushes and crashes of a Compute Express Link shared-memory
+//! system. The judge says whether some choice of silent steps, copies that move between caches and to memory, explains
+//! it. The four calls are those of the proved library with typed answers; [`Judge`] keeps the buffers that judging needs.
 //!
 //! ```
 //! use malluvom::{Judge, Recorder, Verdict};

@@ -1,7 +1,7 @@
 use crate::{record, Refusal};
 
-/// An accepted log has at most 32 locations and 128 events.
-const LOG_MOST: usize = 5 + 32 * 4 + 128 * 8 + 3;
+/// An accepted log has at most 32 locations and 128 events, of which read-modify-writes are the longest.
+const LOG_MOST: usize = 5 + 32 * 4 + 128 * 10 + 3;
 
 /// Builds a log field by field; each is checked by the proved recorder.
 pub struct Recorder {
@@ -27,10 +27,16 @@ impl Recorder {
         self.field(0x02, &[owner])
     }
 
-    /// The next event. What its operation does not use must be 0.
+    /// The next event, with an operation from 1 to 7. What it does not use must be 0.
     pub fn event(&mut self, operation: u8, machine: u8, location: u8, value: u16) -> Result<(), Refusal> {
         let [low, high] = value.to_le_bytes();
         self.field(0x03, &[operation, machine, location, low, high])
+    }
+
+    /// The next event, a read-modify-write with an operation from 8 to 10.
+    pub fn rmw(&mut self, operation: u8, machine: u8, location: u8, read: u16, written: u16) -> Result<(), Refusal> {
+        let ([low, high], [written_low, written_high]) = (read.to_le_bytes(), written.to_le_bytes());
+        self.field(0x05, &[operation, machine, location, low, high, written_low, written_high])
     }
 
     /// Any field.

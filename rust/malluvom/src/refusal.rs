@@ -18,7 +18,7 @@ pub enum Refusal {
     BadOwner,
     /// A 33rd location or a 129th event.
     TooMany,
-    /// The operation is outside 1 to 7.
+    /// The operation is none of its field's: 1 to 7, or 8 to 10 for a read-modify-write.
     UnknownOperation,
     /// The event's machine is outside 1 to the machine count.
     NoSuchMachine,
@@ -70,7 +70,7 @@ impl Refusal {
             Refusal::BadTopology => "the machine count is not 1 to 6, or an absent machine is called persistent",
             Refusal::BadOwner => "the owner is not one of the machines",
             Refusal::TooMany => "more than 32 locations or more than 128 events",
-            Refusal::UnknownOperation => "the operation is not 1 to 7",
+            Refusal::UnknownOperation => "the operation is not 1 to 7, or not 8 to 10 in a field 05",
             Refusal::NoSuchMachine => "the event's machine is not one of the machines",
             Refusal::NoSuchLocation => "the event's location is not listed",
             Refusal::ReservedNotZero => "a byte that the operation does not use is not 0",

@@ -102,6 +102,74 @@ fn explanations_name_the_values_that_could_be_read() {
     assert!(four.contains("~ propagate by 1 of L0"), "{four}");
 }
 
+/// The same read-modify-writes as text and as fields.
+const RMW_LINES: [&str; 3] = ["L-RMW by 1 of L0, 1 to 5", "R-RMW by 2 of L0, 5 to 6", "M-RMW by 3 of L0, 6 to 700"];
+const RMW_FIELDS: [[u8; 10]; 3] =
+    [[5, 7, 0, 8, 1, 0, 1, 0, 5, 0], [5, 7, 0, 9, 2, 0, 5, 0, 6, 0], [5, 7, 0, 10, 3, 0, 6, 0, 0xbc, 2]];
+
+#[test]
+fn read_modify_writes_are_written_down() {
+    let folder = folder("rmw-unchecked");
+    let text = folder.join("a.txt");
+    // The words between are for the reader.
+    for lines in [RMW_LINES, ["L-RMW 1 L0 1 5", "r-rmw 2 L0 5 6", "m-Rmw 3, L0 6 to 0x2bc"]] {
+        fs::write(&text, format!("unchecked\n{}\n", lines.join("\n"))).unwrap();
+        let assembled = tool(&["asm", text.to_str().unwrap()]);
+        assert_eq!((status(&assembled), assembled.stdout), (0, RMW_FIELDS.concat()));
+    }
+}
+
+#[test]
+fn read_modify_writes_are_shown_explained_and_drawn() {
+    let folder = folder("rmw");
+    let [text, log, again] = ["a.txt", "a.log", "again.txt"].map(|name| folder.join(name));
+    let [text, log, again] = [&text, &log, &again].map(|path| path.to_str().unwrap());
+    let head = "machines 3 persistent all\nL0 of 2\nLStore by 3 to L0 of 1\n";
+    fs::write(text, format!("{head}{}\n", RMW_LINES.join("\n"))).unwrap();
+    assert_eq!(status(&tool(&["asm", text, "-o", log])), 0);
+    let bytes = fs::read(log).unwrap();
+    assert_eq!(bytes[17..bytes.len() - 3], RMW_FIELDS.concat());
+    assert_eq!(status(&tool(&["judge", log])), 0);
+    assert_eq!(status(&tool(&["show", log, "-o", again])), 0);
+    let shown = fs::read_to_string(again).unwrap();
+    assert!(RMW_LINES.iter().all(|line| shown.lines().any(|shown| shown.starts_with(line))), "{shown}");
+    assert_eq!(tool(&["asm", again]).stdout, bytes);
+    let explained = String::from_utf8(tool(&["explain", log]).stdout).unwrap();
+    for words in [
+        "L0: 1 loaded from a cache, then cache of 1 holds 5, memory 0, cache of 3 loses it",
+        "L0: 5 loaded from a cache, then cache of 2 holds 6, memory 0, cache of 1 loses it",
+        "L0: 6 loaded from a cache, then no cache holds it, memory 700, cache of 2 loses it",
+    ] {
+        assert!(explained.contains(words), "{explained}");
+    }
+    let svg = String::from_utf8(tool(&["draw", log]).stdout).unwrap();
+    for label in ["2: L-RMW 5", "reads 1", "3: R-RMW 6", "reads 5", "4: M-RMW 700", "reads 6"] {
+        assert!(svg.contains(&format!(">{label}</text>")), "{label}: {svg}");
+    }
+}
+
+#[test]
+fn a_read_modify_write_that_cannot_read_is_explained() {
+    let folder = folder("rmw-impossible");
+    let [text, log] = ["a.txt", "a.log"].map(|name| folder.join(name));
+    let [text, log] = [&text, &log].map(|path| path.to_str().unwrap());
+    let explained = |events: &str| {
+        fs::write(text, format!("machines 3 persistent all\nL0 of 2\n{events}\n")).unwrap();
+        assert_eq!(status(&tool(&["asm", text, "-o", log])), 0);
+        let output = tool(&["explain", log]);
+        assert_eq!(status(&output), 1, "{events}");
+        assert_eq!(status(&tool(&["draw", log])), 0, "{events}");
+        String::from_utf8(output.stdout).unwrap()
+    };
+    let first = explained("R-RMW by 1 of L0, 1 to 5");
+    assert!(first.starts_with("impossible: event 1, R-RMW by 1 of L0, 1 to 5\n"), "{first}");
+    assert!(first.contains("a load by 1 of L0 can return 0, not 1.\nNothing before it stores 1 to L0.\n"), "{first}");
+    // What a read-modify-write stored can be read, and stands in the way of what was before.
+    let second = explained("L-RMW by 1 of L0, 0 to 5\nM-RMW by 2 of L0, 0 to 6");
+    assert!(second.contains("a load by 2 of L0 can return 5, not 0.\n"), "{second}");
+    assert!(second.contains("   1  L-RMW by 1 of L0, 0 to 5\n"), "{second}");
+}
+
 #[test]
 fn folders_and_json() {
     let root = Path::new(env!("CARGO_MANIFEST_DIR")).join("../../examples/marked");
@@ -130,6 +198,12 @@ fn errors_have_status_2_and_say_what_is_wrong() {
         ("machines 2 persistent all\n\nCrash of 3", ":3: number 9 (NoSuchMachine)"),
         ("machines 2 persistent all\nL0 of 1\nLoad by 1 of L0", ":3: this line should look like 'Load by 1 of L0, 1'"),
         ("machines 2 persistent all\nL0 of 1\nLoad by 1 of L0, 65536", "'65536' is no number that fits"),
+        (
+            "machines 2 persistent all\nL0 of 1\nL-RMW 1 L0 0",
+            ":3: this line should look like 'L-RMW by 1 of L0, 1 to 2'",
+        ),
+        ("machines 2 persistent all\nL0 of 1\nM-RMW 1 L0 0 65536", "'65536' is no number that fits"),
+        ("machines 2 persistent all\nL0 of 1\nM-RMW by 3 of L0, 0 to 1", ":3: number 9 (NoSuchMachine)"),
         ("machines 2 persistent all\nbytes 00", "unchecked"),
         ("machines 2 persistent all\nend\nCrash of 1", ":3: number 12 (TrailingBytes)"),
         ("machines 2 persistent all\nStore by 1", "'Store' begins no line"),
@@ -225,6 +299,8 @@ fn no_text_makes_it_panic() {
         "Load",
         "crash",
         "RFlush",
+        "L-RMW",
+        "m-rmw",
         "propagate",
         "write-back",
         "bytes",

@@ -93,7 +93,7 @@ impl Assembly {
             }
             Line::Event(event) => {
                 self.events += 1;
-                self.field(0x03, &event.payload())
+                self.field(event.operation.tag(), &event.payload())
             }
             Line::Silent { location, machine } => {
                 let before = u8::try_from(self.events).map_err(|_| "over 255 events before a silent step")?;

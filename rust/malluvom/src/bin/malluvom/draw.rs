@@ -213,15 +213,18 @@ impl<'a> Picture<'a> {
     fn event(&mut self, column: usize, number: Option<usize>, event: &Event) {
         let (x, y) = (Self::middle(column), self.lane(event.machine));
         let label = match event.operation {
-            Operation::Crash => "Crash".to_string(),
-            Operation::LFlush | Operation::RFlush => format!("{:?}", event.operation),
-            operation => format!("{operation:?} {}", event.value),
+            operation @ (Operation::Crash | Operation::LFlush | Operation::RFlush) => operation.to_string(),
+            operation => format!("{operation} {}", event.stored().unwrap_or(event.value)),
         };
         let (label, class) = match number {
             Some(number) => (format!("{number}: {label}"), "small"),
             None => (format!("{label}?"), "small badtext"),
         };
         let _ = writeln!(self.svg, "<text class=\"{class}\" x=\"{x}\" y=\"{}\">{label}</text>", TOP - 8);
+        if event.operation.is_rmw() {
+            let read = event.value;
+            let _ = writeln!(self.svg, "<text class=\"{class}\" x=\"{x}\" y=\"{}\">reads {read}</text>", TOP - 21);
+        }
         let shape = match (event.operation, number) {
             (Operation::Crash, _) | (_, None) => {
                 let class = if number.is_some() { "crash" } else { "bad" };

@@ -9,7 +9,7 @@ use malluvom::{Event, Judge, Log, Operation, Schedule, Verdict};
 use crate::failure::Failure;
 use crate::files;
 use crate::options::Options;
-use crate::run::{actions, Action, Held};
+use crate::run::{actions, caches, Action, Held};
 use crate::show::silent;
 
 pub fn command(words: &[OsString]) -> Result<u8, Failure> {
@@ -64,6 +64,12 @@ fn run(log: &Log, schedule: &Schedule) -> String {
 /// What an action does to a location, or why it is possible; nothing if it does not concern it.
 fn change(x: usize, before: Held, after: Held, action: &Action) -> Option<String> {
     let words = match action {
+        Action::Event(_, event) if event.operation.is_rmw() && usize::from(event.location) == x => {
+            let source = if before.sharers == 0 { "memory" } else { "a cache" };
+            let lost =
+                caches(before.sharers & !after.sharers, "lose").map_or(String::new(), |lose| format!(", {lose} it"));
+            format!("{} loaded from {source}, then {}{lost}", event.value, after.words())
+        }
         _ if before != after => return Some(format!("L{x}: {}", after.words())),
         Action::Event(_, event) if event.operation != Operation::Crash && usize::from(event.location) == x => {
             match event.operation {
@@ -83,7 +89,7 @@ fn impossible(log: &Log, number: usize, judge: &mut Judge) -> Result<String, Fai
     let event = log.events[number - 1];
     let before = &log.events[..number - 1];
     let mut text = format!("impossible: event {number}, {event}\n\n");
-    if event.operation != Operation::Load {
+    if !event.operation.reads() {
         text.push_str("No choice of silent steps lets it happen.\n");
         return Ok(text);
     }
@@ -95,7 +101,7 @@ fn impossible(log: &Log, number: usize, judge: &mut Judge) -> Result<String, Fai
         count => format!("The {count} events before it can be explained, and then"),
     });
     let _ = writeln!(text, " a load by {machine} of L{location} can return {}, not {value}.", values.join(" or "));
-    if value != 0 && !before.iter().any(|store| stores(store, location) && store.value == value) {
+    if value != 0 && !stored(before, location).any(|stored| stored == value) {
         let _ = writeln!(text, "Nothing before it stores {value} to L{location}.");
     } else {
         text.push_str(&constraints(log, number, &event, judge)?);
@@ -104,8 +110,9 @@ fn impossible(log: &Log, number: usize, judge: &mut Judge) -> Result<String, Fai
     Ok(text)
 }
 
-fn stores(event: &Event, location: u8) -> bool {
-    event.operation.is_store() && event.location == location
+/// The values that events store to a location.
+fn stored(events: &[Event], location: u8) -> impl Iterator<Item = u16> + '_ {
+    events.iter().filter(move |event| event.location == location).filter_map(Event::stored)
 }
 
 fn is_allowed(log: &Log, events: &[Event], judge: &mut Judge) -> Result<bool, Failure> {
@@ -113,11 +120,10 @@ fn is_allowed(log: &Log, events: &[Event], judge: &mut Judge) -> Result<bool, Fa
     Ok(matches!(judge.judge(&bytes).map_err(Failure::new)?, Verdict::Allowed(_)))
 }
 
-/// The values that the load could have returned after these events, each found by judging. No other value can be there
-/// than 0 and what was stored.
+/// The values that the load, or that of a read-modify-write, could have returned after these events, each found by
+/// judging. No other value can be there than 0 and what was stored.
 fn loadable(log: &Log, before: &[Event], load: &Event, judge: &mut Judge) -> Result<Vec<u16>, Failure> {
-    let stored = before.iter().filter(|event| stores(event, load.location));
-    let mut candidates: BTreeSet<u16> = stored.map(|event| event.value).collect();
+    let mut candidates: BTreeSet<u16> = stored(before, load.location).collect();
     candidates.insert(0);
     let mut values = Vec::new();
     for value in candidates {

@@ -61,30 +61,43 @@ impl Held {
             Action::Silent(Step { machine, .. }) => {
                 Held { sharers: sharers & !bit(machine) | bit(owner), copy, memory }
             }
-            Action::Event(_, Event { operation, machine, value, .. }) => match operation {
-                Operation::LStore => Held { sharers: bit(machine), copy: value, memory },
-                Operation::RStore => Held { sharers: bit(owner), copy: value, memory },
-                Operation::MStore => Held { sharers: 0, copy, memory: value },
-                Operation::Load if sharers == 0 => self,
-                Operation::Load => Held { sharers: sharers | bit(machine), copy, memory },
-                Operation::LFlush | Operation::RFlush => self,
-                Operation::Crash => {
-                    let forgotten = machine == owner && !log.is_persistent(machine);
-                    let memory = if forgotten { 0 } else { memory };
-                    Held { sharers: sharers & !bit(machine), copy, memory }
+            Action::Event(_, event) => {
+                let machine = event.machine;
+                // A read-modify-write leaves what its store leaves.
+                let stored = event.stored().unwrap_or(0);
+                match event.operation {
+                    Operation::LStore | Operation::LRmw => Held { sharers: bit(machine), copy: stored, memory },
+                    Operation::RStore | Operation::RRmw => Held { sharers: bit(owner), copy: stored, memory },
+                    Operation::MStore | Operation::MRmw => Held { sharers: 0, copy, memory: stored },
+                    Operation::Load if sharers == 0 => self,
+                    Operation::Load => Held { sharers: sharers | bit(machine), copy, memory },
+                    Operation::LFlush | Operation::RFlush => self,
+                    Operation::Crash => {
+                        let forgotten = machine == owner && !log.is_persistent(machine);
+                        let memory = if forgotten { 0 } else { memory };
+                        Held { sharers: sharers & !bit(machine), copy, memory }
+                    }
                 }
-            },
+            }
         }
     }
 
     /// In words.
     pub fn words(&self) -> String {
-        let machines: Vec<String> =
-            (1..=8).filter(|&machine| self.by(machine)).map(|machine| machine.to_string()).collect();
-        match machines.len() {
-            0 => format!("no cache holds it, memory {}", self.memory),
-            1 => format!("cache of {} holds {}, memory {}", machines[0], self.copy, self.memory),
-            _ => format!("caches of {} hold {}, memory {}", machines.join(" and "), self.copy, self.memory),
+        match caches(self.sharers, "hold") {
+            Some(hold) => format!("{hold} {}, memory {}", self.copy, self.memory),
+            None => format!("no cache holds it, memory {}", self.memory),
         }
+    }
+}
+
+/// What the caches of a set of machines do, in words, or nothing if there is none.
+pub fn caches(set: u8, verb: &str) -> Option<String> {
+    let machines: Vec<String> =
+        (1..=8).filter(|machine| set >> (machine - 1) & 1 == 1).map(|machine| machine.to_string()).collect();
+    match &machines[..] {
+        [] => None,
+        [one] => Some(format!("cache of {one} {verb}s")),
+        more => Some(format!("caches of {} {verb}", more.join(" and "))),
     }
 }

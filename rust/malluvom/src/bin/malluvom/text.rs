@@ -38,7 +38,7 @@ pub fn parse(line: &str) -> Result<Option<Line>, String> {
         },
         "bytes" => Line::Bytes(rest.iter().map(|word| hex(word)).collect::<Result<_, _>>()?),
         "end" => none(rest, Line::End)?,
-        name => match Operation::ALL.iter().find(|operation| format!("{operation:?}").eq_ignore_ascii_case(name)) {
+        name => match Operation::ALL.iter().find(|operation| operation.to_string().eq_ignore_ascii_case(name)) {
             Some(&operation) => Line::Event(event(operation, rest)?),
             None => match (location_number(first), rest) {
                 (Ok(number_of), [owner]) => Line::Location { number: number_of, owner: number(owner)? },
@@ -78,7 +78,7 @@ fn machines(rest: &[&str]) -> Result<Line, String> {
 }
 
 fn event(operation: Operation, rest: &[&str]) -> Result<Event, String> {
-    let mut event = Event { operation, machine: 0, location: 0, value: 0 };
+    let mut event = Event { operation, machine: 0, location: 0, value: 0, written: 0 };
     match (operation, rest) {
         (Operation::Crash, [machine]) => event.machine = number(machine)?,
         (Operation::LFlush | Operation::RFlush, [machine, location]) => {
@@ -88,8 +88,12 @@ fn event(operation: Operation, rest: &[&str]) -> Result<Event, String> {
             (event.machine, event.location) = (number(machine)?, location_number(location)?);
             event.value = number(value)?;
         }
+        (Operation::LRmw | Operation::RRmw | Operation::MRmw, [machine, location, value, written]) => {
+            (event.machine, event.location) = (number(machine)?, location_number(location)?);
+            (event.value, event.written) = (number(value)?, number(written)?);
+        }
         _ => {
-            let example = Event { operation, machine: 1, location: 0, value: 1 };
+            let example = Event { operation, machine: 1, location: 0, value: 1, written: 2 };
             return Err(format!("this line should look like '{example}'"));
         }
     }
