@@ -36,7 +36,7 @@ enum cxl0_refusal {
 /* The scratch must have at least so many 64-bit numbers. */
 #define CXL0_SCRATCH_LEAST 4096
 /* An accepted log has at most so many bytes. */
-#define CXL0_LOG_MOST 1160
+#define CXL0_LOG_MOST 1416
 
 /* Puts one field after the first `used` bytes of `buf`; no other byte changes. Bits 8 to 39: the new count of used
  * bytes. */

@@ -17,7 +17,7 @@ from typing import NamedTuple, Optional, Tuple
 
 FILE_MOST = 1544
 SCRATCH_LEAST = 4096
-LOG_MOST = 1160
+LOG_MOST = 1416
 
 REFUSALS = (
     "BufferTooShort",

@@ -67,6 +67,27 @@ class Calls(unittest.TestCase):
         with self.assertRaises(ValueError):
             malluvom.record(buffer, 0, 257, b"")
 
+    def test_read_modify_write(self):
+        buffer = bytearray(malluvom.LOG_MOST)
+        used = malluvom.record(buffer, 0, 1, b"\x02\x03")
+        used = malluvom.record(buffer, used, 2, b"\x02")
+        self.refused(8, malluvom.record, buffer, used, 3, b"\x08\x01\0\0\0")
+        self.refused(8, malluvom.record, buffer, used, 5, b"\x07\x01\0\0\0\0\0")
+        self.refused(4, malluvom.record, buffer, used, 5, b"\x08\x01\0\0\0")
+        # L-RMW by 1 of L0, 0 to 5; Load by 2 of L0, 5 or 6.
+        stored = malluvom.record(buffer, used, 5, b"\x08\x01\0\0\0\x05\0")
+        self.assertEqual(stored, used + 10)
+        for value, expected in (b"\x05", "allowed 0"), (b"\x06", "impossible 2"):
+            used = malluvom.record(buffer, stored, 3, b"\x04\x02\0" + value + b"\0")
+            end = malluvom.record(buffer, used, 4, b"")
+            self.assertEqual(answer(bytes(buffer[:end])), expected)
+
+    def test_the_longest_log(self):
+        log = bytes.fromhex("0102000600") + bytes.fromhex("02010006") * 32
+        log += bytes.fromhex("0507000901000000 0000") * 128 + bytes.fromhex("040000")
+        self.assertEqual(len(log), malluvom.LOG_MOST)
+        self.assertEqual(malluvom.read(log), malluvom.Counts(machines=6, locations=32, events=128))
+
     def test_replay(self):
         self.assertEqual(malluvom.replay(self.log, bytes.fromhex("1002000100 1103000000 00 040000")), (False, 0))
         self.refused(13, malluvom.replay, self.log, b"")
