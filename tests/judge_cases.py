@@ -2,7 +2,7 @@
 """Prints the judge's cases of crates/cases/stdin: logs in the byte form of document 01, each with the areas that it is
 judged in. A case is a line `j NAME LOG OUTPUT OFFSET SCRATCH`, and a comment above it says what is to come out."""
 
-LSTORE, RSTORE, MSTORE, LOAD, LFLUSH, RFLUSH, CRASH = range(1, 8)
+LSTORE, RSTORE, MSTORE, LOAD, LFLUSH, RFLUSH, CRASH, LRMW, RRMW, MRMW = range(1, 11)
 LONGEST = 1544  # bytes of a verdict file
 WORDS = 4096  # the fewest numbers of a scratch area
 
@@ -19,8 +19,10 @@ def row(owner):
     return field(0x02, owner)
 
 
-def event(operation, machine, location=0, value=0):
-    return field(0x03, operation, machine, location, value % 256, value // 256)
+def event(operation, machine, location=0, *values):
+    """A read-modify-write where there are two values."""
+    numbers = [byte for value in values or (0,) for byte in (value % 256, value // 256)]
+    return field(0x05 if len(values) == 2 else 0x03, operation, machine, location, *numbers)
 
 
 END = field(0x04)
@@ -93,6 +95,50 @@ def small_logs():
          log([1, 2, 3], [(CRASH, 1), (LOAD, 1, 1, 1), (LOAD, 1, 2, 1), (LOAD, 1, 0, 1)]))
 
 
+def rmw_logs():
+    """Read-modify-writes: each is a load and a store, and nothing comes between."""
+    outcomes = {(LRMW, 1): "allowed", (LRMW, 3): "allowed, one step", (RRMW, 1): "impossible, 3",
+                (RRMW, 3): "allowed", (MRMW, 1): "impossible, 3", (MRMW, 3): "impossible, 3"}
+    for form, letter in ((LRMW, "L"), (RRMW, "R"), (MRMW, "M")):
+        for crashed in (1, 3):
+            case(f"rmw-{letter}-{crashed}", f"0 to 1 by {letter}-RMW, crash of {crashed}, again 0 to 1, owner 3: "
+                 f"{outcomes[form, crashed]}", log([3], [(form, 1, 0, 0, 1), (CRASH, crashed), (form, 2, 0, 0, 1)]))
+        case(f"rmw-{letter}-twice", f"0 to 1 by {letter}-RMW twice without a crash: impossible, 2",
+             log([3], [(form, 1, 0, 0, 1), (form, 2, 0, 0, 1)]))
+        case(f"rmw-{letter}-first", f"an {letter}-RMW that reads 1 first: impossible, 1",
+             log([3], [(form, 1, 0, 1, 0)]))
+        case(f"rmw-{letter}-chain", f"three {letter}-RMWs, each of the last one's value, both bytes: allowed",
+             log([3], [(form, 1, 0, 0, 65535), (form, 2, 0, 65535, 256), (form, 3, 0, 256, 255), (LOAD, 1, 0, 255)]))
+        copies = [(LSTORE, 1, 0, 5), (LOAD, 2, 0, 5), (form, 2, 0, 5, 6), (LFLUSH, 1, 0)]
+        case(f"rmw-{letter}-clears", f"an {letter}-RMW of a value with two copies, of which none is left: allowed",
+             log([3], copies + [(LOAD, 1, 0, 6)]))
+        case(f"rmw-{letter}-stale", "the same, then a load of the value read: impossible, 5",
+             log([3], copies + [(LOAD, 1, 0, 5)]))
+    case("rmw-M-no-copy", "the load of an M-RMW leaves no copy either: allowed, no steps",
+         log([3], [(LSTORE, 2, 0, 5), (MRMW, 1, 0, 5, 6), (RFLUSH, 1, 0)]))
+    case("rmw-L-copy", "an L-RMW leaves a copy with its machine: allowed, two steps",
+         log([3], [(LSTORE, 2, 0, 5), (LRMW, 1, 0, 5, 6), (RFLUSH, 2, 0)]))
+    case("rmw-L-own", "an L-RMW by the owner, flushed: impossible, 4",
+         log([1], [(LRMW, 1, 0, 0, 1), (LFLUSH, 1, 0), (CRASH, 1), (LRMW, 2, 0, 0, 1)]))
+    for value, outcome in ((0, "allowed"), (1, "allowed"), (2, "allowed"), (3, "impossible, 4")):
+        case(f"rmw-memory-{value}", f"one of several values that memory may have: {outcome}",
+             log([3], [(LRMW, 1, 0, 0, 1), (LRMW, 2, 0, 1, 2), (CRASH, 2), (RRMW, 1, 0, value, 9)]))
+    back = [(LRMW, 1, 0, 0, 1), (LRMW, 2, 0, 1, 2), (CRASH, 2), (LRMW, 1, 0, 1, 9)]
+    case("rmw-back", "an L-RMW that only earlier steps make possible, and what it stored: allowed",
+         log([3], back + [(LOAD, 2, 0, 9), (CRASH, 1), (RFLUSH, 1, 0), (CRASH, 3), (LOAD, 1, 0, 9)]))
+    case("rmw-back-stale", "the same, then a load of the value that was lost: impossible, 5",
+         log([3], back + [(LOAD, 2, 0, 2)]))
+    for read, outcome in ((0, "allowed"), (1, "impossible, 3")):
+        case(f"rmw-volatile-{read}", f"a volatile owner loses what an M-RMW stored, {read} is read: {outcome}",
+             log([2], [(MRMW, 1, 0, 0, 1), (CRASH, 2), (MRMW, 3, 0, read, 2)], persistent=0))
+    case("rmw-locations", "two locations, each with its own value: allowed",
+         log([1, 2], [(LRMW, 3, 0, 0, 1), (RRMW, 3, 1, 0, 2), (CRASH, 3), (MRMW, 1, 0, 0, 4), (MRMW, 1, 1, 2, 3)]))
+    quarters = [(LRMW, 1, 0, 1), (RRMW, 2, 1, 2), (MRMW, 1, 2, 3), (LRMW, 2, 3, 4)]
+    events = [(form, machine, x, read, written) for form, machine, read, written in quarters for x in range(32)]
+    case("rmw-longest", "128 read-modify-writes of 32 locations, the longest log: allowed",
+         log([x % 3 + 1 for x in range(32)], events))
+
+
 def full(last):
     """128 events on 32 locations of six machines, three of them volatile: each location is stored, read elsewhere, put
     through a crash of every machine, read again and flushed; the last event is as given."""
@@ -129,9 +175,10 @@ def refusals():
     case("refused-2", "an empty file: number 2", b"")
     case("refused-2-cut", "a payload that is not whole: number 2", head(3, 7)[:-1])
     case("refused-2-end", "no end field: number 2", good[:-3])
-    case("refused-3", "an unknown tag: number 3", head(3, 7) + field(0x05) + END)
+    case("refused-3", "an unknown tag: number 3", head(3, 7) + field(0x06) + END)
     case("refused-3-first", "no head: number 3", row(1) + END)
     case("refused-4", "a location of length 2: number 4", head(3, 7) + field(0x02, 1, 1) + END)
+    case("refused-4-rmw", "a read-modify-write of length 5: number 4", head(3, 7) + field(0x05, 8, 1, 0, 0, 0) + END)
     case("refused-5", "no machines: number 5", head(0, 0) + END)
     case("refused-5-seven", "7 machines: number 5", head(7, 0) + END)
     case("refused-5-absent", "a persistent bit of an absent machine: number 5", head(3, 8) + END)
@@ -140,8 +187,12 @@ def refusals():
     case("refused-7-locations", "a 33rd location: number 7", log([1] * 33, []))
     case("refused-8", "operation 0: number 8", log([1], [(0, 1)]))
     case("refused-8-last", "operation 8 after an impossible event: number 8", log([1], [(LOAD, 1, 0, 1), (8, 1)]))
+    case("refused-8-rmw", "an operation 7 with two values: number 8", log([1], [(CRASH, 1, 0, 0, 0)]))
+    case("refused-8-one", "an operation 10 with one value: number 8", log([1], [(MRMW, 1, 0, 0)]))
     case("refused-9", "machine 4 of 3: number 9", log([1], [(CRASH, 4)]))
+    case("refused-9-rmw", "an R-RMW by machine 4 of 3: number 9", log([1], [(RRMW, 4, 0, 0, 0)]))
     case("refused-10", "location 1 of 1: number 10", log([1], [(LOAD, 1, 1, 0)]))
+    case("refused-10-rmw", "an M-RMW of location 1 of 1: number 10", log([1], [(MRMW, 1, 1, 0, 0)]))
     case("refused-11", "a crash with a location: number 11", log([1], [(CRASH, 1, 1)]))
     case("refused-12", "a byte after the end: number 12", good + b"\0")
 
@@ -170,6 +221,7 @@ def areas():
 
 marked_logs()
 small_logs()
+rmw_logs()
 large_logs()
 refusals()
 areas()

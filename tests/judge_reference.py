@@ -1,14 +1,15 @@
 #!/usr/bin/env python3
 """judge_reference.py STDIN STDOUT: is STDOUT what crates/cases must print on STDIN, the judge's cases?
 
-Each log is judged anew, from document 01 alone: a location at a time, forward, with every state that its silent steps
-can reach. A schedule that was printed is replayed on the whole system. The exit status is 0 only where nothing is
-wrong."""
+Each log is judged anew, from document 01 and the sentence of request W-201 alone: a location at a time, forward,
+with every state that its silent steps can reach. A schedule that was printed is replayed on the whole system. The exit
+status is 0 only where nothing is wrong."""
 import sys
 
 from format_reference import Refused, fields
 
-LSTORE, RSTORE, MSTORE, LOAD, LFLUSH, RFLUSH, CRASH = range(1, 8)
+LSTORE, RSTORE, MSTORE, LOAD, LFLUSH, RFLUSH, CRASH, LRMW, RRMW, MRMW = range(1, 11)
+STORE_OF = {LRMW: LSTORE, RRMW: RSTORE, MRMW: MSTORE}
 LONGEST = 1544
 WORDS = 4096
 MOST_STEPS = 256
@@ -57,7 +58,11 @@ def write_back(owner, state):
 
 def after(records, owner, event, state):
     """The state after an event of the location, or a crash; None where the event is not possible."""
-    operation, machine, _, value = event
+    operation, machine, location, value, *written = event
+    if operation in STORE_OF:
+        loaded = after(records, owner, (LOAD, machine, location, value), state)
+        store = (STORE_OF[operation], machine, location, *written)
+        return None if loaded is None else after(records, owner, store, loaded)
     caches, memory = state
     nobody = (None,) * len(caches)
     if operation == LSTORE:
@@ -143,6 +148,11 @@ def replays(records, steps):
     return at == len(steps)
 
 
+def most_steps(records):
+    """Twice the stores and once the loads; a read-modify-write counts as a store."""
+    return sum(2 if e[0] in (LSTORE, RSTORE, MSTORE, *STORE_OF) else e[0] == LOAD for e in records.events)
+
+
 def schedule(records, file):
     """The steps of a file that says allowed; None where it has not that form or does not fit the log."""
     if file[:5] != bytes.fromhex("1002000100") or file[-3:] != bytes.fromhex("040000") or len(file) % 6 != 2:
@@ -175,6 +185,8 @@ def wrong_allowed(records, name, printed):
         return "the file is no schedule of this log"
     if not replays(records, steps):
         return "the schedule is no run"
+    if len(steps) > most_steps(records):
+        return "more steps than twice the stores and once the loads"
     if printed[0] != f"{name} allowed {len(steps)} {len(file)}":
         return "not the verdict, the step count and the length of the file"
     return None if printed[2:] == ["replay yes"] + AFTER_A_VERDICT else "not the lines that must follow the file"

@@ -1,6 +1,7 @@
 #!/usr/bin/env python3
-"""`cases` prints the cases of replay in crates/cases/stdin. `answers` reads those lines and prints what the program must
-print, by a schedule reader and a replay of the whole system of its own, written from document 01 alone."""
+"""`cases` prints the cases of replay in crates/cases/stdin. `answers` reads those lines and prints what the program
+must print, by a schedule reader and a replay of the whole system of its own, written from document 01 and the sentence
+of request W-201 alone."""
 import sys
 
 sys.dont_write_bytecode = True
@@ -25,7 +26,9 @@ class System:
         for cache in self.caches.values():
             cache.pop(x, None)
 
-    def event(self, operation, i, x, v):
+    def event(self, operation, i, x, v, *written):
+        if operation in (8, 9, 10):
+            return self.event(4, i, x, v) and self.event(operation - 7, i, x, *written)
         if operation in (1, 2):
             self.lose(x)
             self.caches[i if operation == 1 else self.owners[x]][x] = v
@@ -113,9 +116,15 @@ END = field(0x04)
 ALLOWED = field(0x10, 1, 0)
 
 
+def event(operation, i, x, *values):
+    """A read-modify-write where there are two values."""
+    numbers = [byte for v in values for byte in (v % 256, v // 256)]
+    return field(0x05 if len(values) == 2 else 0x03, operation, i, x, *numbers)
+
+
 def log(machines, persistent, owners, events):
     body = b"".join(field(0x02, k) for k in owners)
-    body += b"".join(field(0x03, op, i, x, v % 256, v // 256) for op, i, x, v in events)
+    body += b"".join(event(*e) for e in events)
     return field(0x01, machines, persistent) + body + END
 
 
@@ -140,7 +149,7 @@ def changed(words, the_log, steps):
              file(head + [(before, machine, location)] + tail))
 
 
-L_STORE, R_STORE, M_STORE, LOAD, L_FLUSH, R_FLUSH, CRASH = range(1, 8)
+L_STORE, R_STORE, M_STORE, LOAD, L_FLUSH, R_FLUSH, CRASH, L_RMW, R_RMW, M_RMW = range(1, 11)
 
 
 def three(owners, *events):
@@ -201,6 +210,27 @@ def edge_cases():
             [(2, 31, 5), (3, 31, 0), (7, 30, 6)])
 
 
+def rmw_cases():
+    crash_of_3 = (CRASH, 3, 0, 0)
+    for form, letter in ((L_RMW, "L"), (R_RMW, "R"), (M_RMW, "M")):
+        again = three([3], (form, 1, 0, 0, 1), crash_of_3, (form, 2, 0, 0, 1))
+        show(f"{letter}-RMW, crash of the owner, the same again without a step", again, file([]))
+        show(f"{letter}-RMW, of a value that is not there", three([3], (form, 1, 0, 1, 1)), file([]))
+        copies = [(L_STORE, 1, 0, 5), (LOAD, 2, 0, 5), (form, 2, 0, 5, 65535), (L_FLUSH, 1, 0, 0)]
+        show(f"{letter}-RMW, of a value with two copies", three([3], *copies, (LOAD, 1, 0, 65535)), file([]))
+        show(f"{letter}-RMW, then an RFlush without a step", three([3], *copies, (R_FLUSH, 1, 0, 0)), file([]))
+        show(f"{letter}-RMW, then a load of the value read", three([3], *copies, (LOAD, 1, 0, 5)), file([]))
+    lost = three([3], (L_RMW, 1, 0, 0, 1), crash_of_3, (L_RMW, 2, 0, 0, 1))
+    changed("L-RMW, whose copy moves before the owner's crash", lost, [(1, 0, 1)])
+    kept = three([3], (R_RMW, 1, 0, 0, 1), crash_of_3, (M_RMW, 2, 0, 1, 2))
+    changed("R-RMW, written back before the owner's crash", kept, [(1, 0, 0)])
+    turns = three([3], (L_RMW, 1, 0, 0, 1), (L_RMW, 2, 0, 1, 2), (CRASH, 2, 0, 0), (LOAD, 1, 0, 1))
+    changed("two L-RMWs, the first in memory", turns, [(1, 0, 1), (1, 0, 0)])
+    every = log(2, 3, [2], [(L_RMW, 1, 0, n, n + 1) for n in range(64)])
+    steps = [step for n in range(1, 65) for step in ((n, 0, 1), (n, 0, 0))]
+    show("64 L-RMWs with 128 steps, twice as many", every, file(steps))
+
+
 def refused_schedules():
     it = MARKED[4]
     step = field(0x11, 1, 0, 1)
@@ -252,7 +282,11 @@ def refused_logs():
             ("owner 4 of 3: 6", three([4])),
             ("33 locations: 7", three([1] * 33)),
             ("129 events: 7", three([1], *crowd)),
+            ("an RMW of length 5: 4", three([1])[:-3] + field(0x05, 8, 1, 0, 0, 0) + END),
             ("operation 8: 8", three([1], (8, 1, 0, 0))),
+            ("an RMW of operation 4: 8", three([1], (LOAD, 1, 0, 0, 0))),
+            ("an RMW by machine 4 of 3: 9", three([1], (L_RMW, 4, 0, 0, 0))),
+            ("an RMW of a location not listed: 10", three([1], (M_RMW, 1, 1, 0, 0))),
             ("machine 4 of 3: 9", three([1], (LOAD, 4, 0, 0))),
             ("a location not listed: 10", three([1], (LOAD, 1, 1, 0))),
             ("a crash with a value: 11", three([1], (CRASH, 1, 0, 1))),
@@ -269,13 +303,13 @@ def drawn(state):
         yield state // 65536
 
 
-def drawn_cases():
-    draw = drawn(4)
+def drawn_cases(numbers, state, operations):
+    draw = drawn(state)
 
     def below(n):
         return next(draw) % n
 
-    for number in range(1, 61):
+    for number in numbers:
         n = 2 + below(3)
         persistent = below(2 ** n)
         owners = [1 + below(n) for _ in range(1 + below(2))]
@@ -288,10 +322,11 @@ def drawn_cases():
                 steps.append((len(events), x, i))
 
         def draw_event():
-            op, i, x, v = 1 + below(7), 1 + below(n), below(len(owners)), below(2)
-            event = (op, i, x if op < 7 else 0, v if op < 5 else 0)
-            if system.event(*event) or below(16) == 0:
-                events.append(event)
+            op, i, x, v = 1 + below(operations), 1 + below(n), below(len(owners)), below(2)
+            values = (v, below(3)) if op > CRASH else (v if op < L_FLUSH else 0,)
+            one = (op, i, x if op != CRASH else 0, *values)
+            if system.event(*one) or below(16) == 0:
+                events.append(one)
 
         for _ in range(20):
             (draw_step if below(2) else draw_event)()
@@ -301,9 +336,11 @@ def drawn_cases():
 def cases():
     marked_cases()
     edge_cases()
+    rmw_cases()
     refused_schedules()
     refused_logs()
-    drawn_cases()
+    drawn_cases(range(1, 61), 4, CRASH)
+    drawn_cases(range(61, 71), 5, M_RMW)
 
 
 {"cases": cases, "answers": answers}[sys.argv[1]]()
