@@ -20,6 +20,7 @@ pub mod Allowances
 pub mod SilentSteps
 pub mod Gaps
 pub mod SomeSilent
+pub mod SideBySide
 pub mod Decision
 pub mod Prefixes
 pub mod NamedEvents

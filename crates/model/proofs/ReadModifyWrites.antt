@@ -1,5 +1,5 @@
--- A read-modify-write is a load and a store side by side. Its load changes no memory and no other location, and its store
--- settles what caches hold of x, so that it leaves the state that the store alone leaves.
+-- A read-modify-write is a load and a store side by side. Its load changes no memory and no other location, and its
+-- store settles what caches hold of x, so that it leaves the state that the store alone leaves.
 use mathlib.Core.Path.{_≡_, refl, sym, ap, _∙_, subst}
 use mathlib.Core.Logic.{_↔_}
 use mathlib.Core.Bool.{Bool, true, false, cond, _&&_}
@@ -8,7 +8,8 @@ use mathlib.Core.Option.{Option, none, some}
 use lib.Dec.{T, eqb}
 use Rattle.model.specs.Cxl0.{Machine, Location, Value, Topology, State, isMachine, isLocation, owner, start}
 use Rattle.model.specs.Cxl0.{Form, L, R, M, Event, LStore, RStore, MStore, Load, RMW, Action, event}
-use Rattle.model.specs.Cxl0.{cached, also, stored, loaded, readable, named, enabled, possible, next, runs, after, Run}
+use Rattle.model.specs.Cxl0.{cached, also, stored, loaded, readable, named, enabled, possible, next}
+use Rattle.model.specs.Cxl0.{runs, after, Run}
 use Rattle.model.specs.OneLocation.{Site, Local, storedAt, loadedAt}
 use Rattle.model.proofs.Tests.{by-test, T→true, not→false}
 use Rattle.model.proofs.Goes.{runs-append}

@@ -1,5 +1,5 @@
--- For each false shortcut of document 01, and of request W-201, that concerns the model, a list of actions that tells it
--- from CXL0: the list is a run, or is none, by computation from the definitions alone.
+-- For each false shortcut of document 01, and of request W-201, that concerns the model, a list of actions that tells
+-- it from CXL0: the list is a run, or is none, by computation from the definitions alone.
 use mathlib.Core.Bool.{Bool, true, false, not, _&&_}
 use mathlib.Core.List.{List, [], _∷_}
 use lib.Dec.{T}

@@ -3,12 +3,12 @@
 use Prim.Native.Nat.{ℕ, _+_, _*_, _≤_}
 use mathlib.Core.Path.{_≡_}
 use mathlib.Core.Logic.{_≢_, _⊎_, _↔_}
-use mathlib.Core.List.{List, List·Memᴰ, map}
+use mathlib.Core.List.{List, _∷_, _++_, List·Memᴰ, map}
 use mathlib.Core.Option.{some}
 use lib.Dec.{T}
 use lib.ListN.{length, take}
-use Rattle.model.specs.Cxl0.{Machine, Location, Value, Topology, WellFormed, isLocation, owner, start}
-use Rattle.model.specs.Cxl0.{Event, Action, event, allNamed, Run, HasRun, after, events, silents}
+use Rattle.model.specs.Cxl0.{Machine, Location, Value, Topology, WellFormed, isLocation, owner, State, start}
+use Rattle.model.specs.Cxl0.{Form, Load, RMW, Event, Action, event, allNamed, Run, HasRun, after, events, silents}
 use Rattle.model.specs.Cxl0.{count, isStore, isLoad}
 use Rattle.model.specs.Schedule.{Step, weave, schedule, inOrder}
 use Rattle.model.specs.OneLocation.{Local, startAt, runsAt, HasRunAt, Moves, Silently}
@@ -20,6 +20,9 @@ use Rattle.model.proofs.SilentSteps
 use Rattle.model.proofs.Decision
 use Rattle.model.proofs.Prefixes
 use Rattle.model.proofs.Weaving
+use Rattle.model.proofs.ReadModifyWrites
+use Rattle.model.proofs.ReadModifyWrites.{storeOf}
+use Rattle.model.proofs.SideBySide
 use Rattle.model.proofs.MarkedLogs as marked
 
 -- 1. Copies of one location always agree in value, in every state that a run reaches.
@@ -81,6 +84,26 @@ weave-run sys acts run = (Weaving.schedule-inOrder acts, Weaving.weave-run sys a
 pub schedule-weave : (es : List Event) (ps : List Step) → T (inOrder 0 (length es) ps)
     → (events (weave es ps) ≡ es) × (schedule (weave es ps) ≡ ps)
 schedule-weave es ps order = (Weaving.events-weave es ps, Weaving.schedule-weave es ps order)
+
+-- 7. A list with a read-modify-write is a run exactly where it is one with load and store side by side in its place,
+-- with no silent step between; and both lead to the same state.
+pub rmw-run : (sys : Topology) (form : Form) (i : Machine) (x : Location) (v w : Value) (before acts : List Action)
+    → Run sys (before ++ event (RMW form i x v w) ∷ acts)
+    ↔ Run sys (before ++ event (Load i x v) ∷ event (storeOf form i x w) ∷ acts)
+rmw-run sys form i x v w = ReadModifyWrites.run-both sys i x v w form
+
+pub rmw-after : (sys : Topology) (form : Form) (i : Machine) (x : Location) (v w : Value)
+    → (acts : List Action) (s : State)
+    → after sys (event (RMW form i x v w) ∷ acts) s
+    ≡ after sys (event (Load i x v) ∷ event (storeOf form i x w) ∷ acts) s
+rmw-after sys form i x v w = ReadModifyWrites.after-both sys i x v w form
+
+-- Silent steps between the two make no difference to what has a run: a read-modify-write rules out only that another
+-- event comes between its load and its store.
+pub rmw-has-run : (sys : Topology) → WellFormed sys → (form : Form) (i : Machine) (x : Location) (v w : Value)
+    → (es fs : List Event)
+    → HasRun sys (es ++ RMW form i x v w ∷ fs) ↔ HasRun sys (es ++ Load i x v ∷ storeOf form i x w ∷ fs)
+rmw-has-run sys wf form i x v w = SideBySide.has-run-both sys form i x v w wf
 
 -- The fourteen marked logs have the verdicts that document 01 gives them.
 pub marked-logs : (l : MarkedLog) → List·Memᴰ l logs

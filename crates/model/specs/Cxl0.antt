@@ -89,8 +89,8 @@ cached sys s x = someMachine (sys .machines) (λ j. holds (s .cache j x))
 pub data Form : Type 0 where
   L R M : Form
 
--- What a log records: by machine i, on location x, of value v. A read-modify-write (source 000, appendix A: L-RMW, R-RMW
--- and M-RMW) reads v and writes w.
+-- What a log records: by machine i, on location x, of value v. A read-modify-write (source 000, appendix A: L-RMW,
+-- R-RMW and M-RMW, by the form of its store) reads v and writes w.
 pub data Event : Type 0 where
   LStore RStore MStore Load : (i : Machine) (x : Location) (v : Value) → Event
   LFlush RFlush : (i : Machine) (x : Location) → Event

@@ -55,8 +55,9 @@ pub const NEXT_OWN: u64 = 256 * INDEX;
 
 pub const NEXT_CRASH: u64 = 256 * NEXT_OWN;
 
-// How many values 32 bits have. The second word of an event has two of them. A waypoint has its code in the lowest byte of a word, its memory value in the next four
-// and where its steps end above them.
+// How many values 32 bits have. The second word of an event has the value in its lower half and the value written in
+// its upper one. A waypoint has its code in the lowest byte of a word, its memory value in the next four and where its
+// steps end above them.
 pub const U32: u64 = 1 << 32;
 
 const STEPS_END: u64 = 256 * U32;

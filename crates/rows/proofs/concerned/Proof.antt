@@ -10,13 +10,15 @@ returns : tie.Need-returns
 unfolding eventAt
 returns c =
     let a = c .before .before .before .before .args in
-    sym (ap (isHereOrNowhere (a .site .location .0)) (at-location (a .e) (located (omega arith) (omega arith) (omega arith))))
+    let at = at-location (a .e) (located (omega arith) (omega arith) (omega arith)) in
+    sym (ap (isHereOrNowhere (a .site .location .0)) at)
 
 returns-2 : tie.Need-returns-2
 unfolding eventAt
 returns-2 c =
     let a = c .before .before .before .before .before .before .args in
-    sym (ap (isHereOrNowhere (a .site .location .0)) (at-location (a .e) (located (omega arith) (omega arith) (omega arith))))
+    let at = at-location (a .e) (located (omega arith) (omega arith) (omega arith)) in
+    sym (ap (isHereOrNowhere (a .site .location .0)) at)
 
 returns-3 : tie.Need-returns-3
 unfolding eventAt locationOf
