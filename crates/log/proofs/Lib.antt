@@ -3,6 +3,7 @@ pub mod Tests
 pub mod Admission
 pub mod Passes
 pub mod Checks
+pub mod Tags
 pub mod Each
 pub mod Elements
 pub mod Payloads

@@ -1,7 +1,7 @@
 -- Boolean tests as facts.
 use mathlib.Core.Path.{_≡_, refl}
-use mathlib.Core.Logic.{_≢_, _⊎_, inl, inr}
-use mathlib.Core.Bool.{Bool, true, false, not, _||_}
+use mathlib.Core.Logic.{_≢_, _⊎_, inl, inr, _↔_}
+use mathlib.Core.Bool.{Bool, true, false, not, _&&_, _||_}
 use lib.Dec.{T, T-not, eqb, eqb→eq}
 use lib.Ieee.Fits.{eq→eqb}
 use Prim.Native.Nat.{ℕ}
@@ -25,6 +25,10 @@ not→false {b = false} t = refl
 
 pub false→not : {b : Bool} → b ≡ false → T (not b)
 false→not {b} e = rw e tt
+
+-- Both of two tests are passed.
+pub and-iff : (a b : Bool) → T (a && b) ↔ (T a × T b)
+and-iff a b = (λ t. (and-l a b t, and-r a b t), λ t. and-i a b (t .0) (t .1))
 
 pub or-l : (a b : Bool) → T a → T (a || b)
 or-l true b t = tt

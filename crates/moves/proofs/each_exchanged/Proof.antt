@@ -1,11 +1,10 @@
 -- `moves::each_exchanged` meets its contract: it is the delta swap of the codes with machine 1 and without k.
 use native.Mathlib.Omega.{arith}
-use mathlib.Core.Logic.{_↔_, Iff·rfl, Iff·trans, Iff·and}
-use mathlib.Core.Bool.{Bool, not, _&&_}
+use mathlib.Core.Logic.{Iff·rfl, Iff·symm, Iff·trans, Iff·and}
+use mathlib.Core.Bool.{not}
 use borrow.Author.Needs.{needs}
-use lib.Dec.{T}
 use Rattle.model.specs.Sharers.{has, insert}
-use Rattle.model.proofs.Tests.{and-i, and-l, and-r}
+use Rattle.model.proofs.Tests.{and-iff}
 use Rattle.model.proofs.SilentSteps.{has→some}
 use Rattle.masks.proofs.Codes.{has-itself}
 use Rattle.moves.proofs.Swaps.{swapped}
@@ -18,9 +17,6 @@ sub-s c =
     let k = start .args .k .0 in
     omega (arith, has→some k (insert k 0) (has-itself k 0 (start .pre .0)), c .alone .ensures .0)
 
-both : (a b : Bool) → (T a × T b) ↔ T (a && b)
-both a b = (λ p. and-i a b (p .0) (p .1), λ t. (and-l a b t, and-r a b t))
-
 returns : tie.Need-returns
 returns c =
     let start = c .before .before .before in
@@ -31,7 +27,7 @@ returns c =
     (swapped k (start .pre) (start .args .m) (lack .result)
     (λ t h.
     Iff·trans (lack .ensures t h)
-    (Iff·trans (Iff·and (hold .ensures t h) Iff·rfl) (both (has 1 t) (not (has k t))))))
+    (Iff·trans (Iff·and (hold .ensures t h) Iff·rfl) (Iff·symm (and-iff (has 1 t) (not (has k t)))))))
 
 pub each-exchanged-spec : {M : Type 1} → statement M
 each-exchanged-spec =
