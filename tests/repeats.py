@@ -17,7 +17,7 @@ ROOT = pathlib.Path(__file__).resolve().parent.parent
 KNOWN = ROOT / "tests" / "repeats.txt"
 LEAST = 10
 SKIPPED = ("--", "//", "use ", "pub use ", "ghost use ", "mod ", "pub mod ")
-PASSED_ON = re.compile(r"\(λ c( κs)?\. search needs\)\)*")
+PASSED_ON = re.compile(r"(\(λ c( κs)?\. search needs\)|nothing)\)*")
 
 
 def lines_of(path):

@@ -10,7 +10,8 @@ use lib.Dec.{T, eqb}
 use Rattle.model.specs.Cxl0.{Machine, Location, Value, Topology, owner, initial, event}
 use Rattle.model.specs.Cxl0.{Event, LStore, RStore, MStore, Load, LFlush, RFlush, Crash, RMW}
 use Rattle.model.specs.Cxl0.{Form, L, R, M}
-use Rattle.model.specs.OneLocation.{Local, Site, siteOf, machineOf, eventAt, concerns, effect, nextAt, storedAt, loadedAt}
+use Rattle.model.specs.OneLocation.{Local, Site, siteOf, machineOf, eventAt, concerns, effect, nextAt}
+use Rattle.model.specs.OneLocation.{storedAt, loadedAt}
 use Rattle.model.proofs.Tests.{T→true, not→false}
 use Rattle.model.proofs.Sharers.{remove-le}
 use Rattle.masks.specs.Sets.{OneToSix}

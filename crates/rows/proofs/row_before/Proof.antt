@@ -20,67 +20,67 @@ load-row-requires c κs =
     let copies = copy-load x (start .args .u) (e .machine .0) (e .location .0) (e .value) in
     (start .pre .1 .0 .machine, rw (c .match .keys4, copies) at (start .pre .1 .1))
 
-returns : tie.Need-returns
+l-store : tie.Need-returns
 unfolding eventOf enabledAt effect
-returns c =
+l-store c =
     let key = c .before .before .match .keys1 in
     let row = rw (c .before .alone .ensures .0) at (c .store-row .ensures) in
     rw key (λ d m h. line-any (row d m h))
 
-returns-2 : tie.Need-returns-2
+r-store : tie.Need-returns-2
 unfolding eventOf enabledAt effect
-returns-2 c =
+r-store c =
     let key = c .before .before .match .keys2 in
     let row = rw (c .before .alone2 .ensures .0) at (c .store-row2 .ensures) in
     rw key (λ d m h. line-any (row d m h))
 
-returns-3 : tie.Need-returns-3
+m-store : tie.Need-returns-3
 unfolding eventOf enabledAt effect
-returns-3 c = rw (c .before .match .keys3) (λ d m h. line-any (c .m-store-row .ensures d m h))
+m-store c = rw (c .before .match .keys3) (λ d m h. line-any (c .m-store-row .ensures d m h))
 
-returns-4 : tie.Need-returns-4
+load : tie.Need-returns-4
 unfolding eventOf
-returns-4 c =
+load c =
     let a = c .before .before .before .args in
     rw (c .before .match .keys4) (c .load-row .ensures (siteMeant (a .site)) (a .e .location .0))
 
-returns-5 : tie.Need-returns-5
+l-flush : tie.Need-returns-5
 unfolding eventOf enabledAt effect
-returns-5 c = rw (c .before .match .keys5) (c .l-flush-row .ensures)
+l-flush c = rw (c .before .match .keys5) (c .l-flush-row .ensures)
 
-returns-6 : tie.Need-returns-6
+r-flush : tie.Need-returns-6
 unfolding eventOf enabledAt effect
-returns-6 c = rw (c .before .match .keys6) (λ d m h. line-none d (c .r-flush-row .ensures d m h))
+r-flush c = rw (c .before .match .keys6) (λ d m h. line-none d (c .r-flush-row .ensures d m h))
 
-returns-7 : tie.Need-returns-7
+crash : tie.Need-returns-7
 unfolding eventOf enabledAt effect crashes
-returns-7 c =
+crash c =
     rw (c .before .before .before .before .match .keys7) (λ d m h. line-any (c .crash-row .ensures d m h))
 
-returns-8 : tie.Need-returns-8
+l-rmw : tie.Need-returns-8
 unfolding eventOf enabledAt effect
-returns-8 c =
+l-rmw c =
     let key = c .before .before .match .keys8 in
     let row = rw (c .before .alone3 .ensures .0) at (c .rmw-row .ensures) in
     rw key row
 
-returns-9 : tie.Need-returns-9
+r-rmw : tie.Need-returns-9
 unfolding eventOf enabledAt effect
-returns-9 c =
+r-rmw c =
     let key = c .before .before .match .keys9 in
     let row = rw (c .before .alone4 .ensures .0) at (c .rmw-row2 .ensures) in
     rw key row
 
-returns-10 : tie.Need-returns-10
+m-rmw : tie.Need-returns-10
 unfolding eventOf enabledAt effect
-returns-10 c = rw (c .before .match .keys10) (c .m-rmw-row .ensures)
+m-rmw c = rw (c .before .match .keys10) (c .m-rmw-row .ensures)
 
 -- No operation has another number.
-returns-11 : tie.Need-returns-11
-returns-11 c = absurd (omega (arith, operation-range (c .before .before .pre .1 .0 .operation)))
+no-operation : tie.Need-returns-11
+no-operation c = absurd (omega (arith, operation-range (c .before .before .pre .1 .0 .operation)))
 
-returns-12 : tie.Need-returns-12
-returns-12 c = absurd (no-other (c .before .before .pre .1 .0 .operation) (c .match .rest))
+above-all : tie.Need-returns-12
+above-all c = absurd (no-other (c .before .before .pre .1 .0 .operation) (c .match .rest))
 
 pub row-before-spec : {M : Type 1} → statement M
 row-before-spec =
@@ -100,15 +100,15 @@ row-before-spec =
     (λ c κs. search needs)
     (λ c κs. search needs)
     (λ c κs. search needs)
-    returns
-    returns-2
-    returns-3
-    returns-4
-    returns-5
-    returns-6
-    returns-7
-    returns-8
-    returns-9
-    returns-10
-    returns-11
-    returns-12)
+    l-store
+    r-store
+    m-store
+    load
+    l-flush
+    r-flush
+    crash
+    l-rmw
+    r-rmw
+    m-rmw
+    no-operation
+    above-all)
