@@ -250,14 +250,13 @@ pub fn gap_row(owner: Machine, u: u32, inner: Row) -> Row
 
 // The event is one of the site's location, or a crash.
 pub fn concerned(site: Site, e: Event) -> bool
+    requires { ⌜ Known e ⌝ }
     ensures { λ r. ⌜ r ≡ eventAt (site .location .0) (meant e) ⌝ }
 {
-    let operation = e.operation;
-    match operation {
-        1..=6 => site.location.0 == e.location.0,
-        8..=10 => site.location.0 == e.location.0,
-        _ => true,
+    if e.operation == 7 {
+        return true;
     }
+    site.location.0 == e.location.0
 }
 
 // The row before an event, without the silent steps before it, when copies have the value u before it.

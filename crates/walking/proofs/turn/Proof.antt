@@ -130,7 +130,7 @@ turn-spec =
     tie.close
     (tie.spec
     (λ c κs. search needs)
-    (λ c κs. search needs)
+    (λ c κs. known c)
     (λ c κs. search needs)
     (λ c. search needs)
     (λ c κs. search needs)

@@ -48,8 +48,11 @@ abbrev asked : tie.After-concerned → Event
 asked h = meant (got-event h .get-event .result)
 
 -- What was read is event t, which is known, and the copies before it.
-known : (h : tie.After-concerned) → Known (got-event h .get-event .result)
-known h = rw (got-event h .get-event .ensures) (start h .pre .known)
+known : (g : tie.After-get-event) → Known (g .get-event .result)
+known g = rw (g .get-event .ensures) (g .before .before .before .pre .known)
+
+concerned-requires : tie.Need-concerned-requires
+concerned-requires c κs = known (c .before .before .before .before .before .before)
 
 read : (h : tie.After-concerned) → asked h ≡ eventIn (words h) (start h .args .t)
 read h =
@@ -91,7 +94,7 @@ here h =
 act-at-requires : tie.Need-act-at-requires
 act-at-requires c κs =
     let h = c .before in
-    (start h .pre .ready .owner, (known h, continuable-fits (start h .pre)))
+    (start h .pre .ready .owner, (known (got-event h), continuable-fits (start h .pre)))
 
 -- The test, and the answer to the event.
 abbrev test : tie.After-put-copy2 → tie.Else1
@@ -130,7 +133,7 @@ go-on-spec =
     (λ c κs. search needs)
     (λ c κs. search needs)
     put-waypoint-requires
-    (λ c κs. search needs)
+    concerned-requires
     (λ c. search needs)
     (λ c κs. search needs)
     (λ c. search needs)
