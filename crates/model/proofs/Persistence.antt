@@ -1,14 +1,14 @@
 -- What users of persistent memory rely on, over the definitions of `Cxl0` and `Goes`: a value in memory that
--- an RFlush has waited for, or that an MStore has put there, stays until the next store of its location;
+-- an RFlush has waited for, or that an MStore or an M-RMW has put there, stays until the next store of its location;
 -- `InMemory` has the work. And the program of source 000, figure 5, to which an LFlush is no help and an
 -- RFlush is.
 use mathlib.Core.Path.{_≡_, refl}
 use mathlib.Core.Bool.{not, _&&_}
-use mathlib.Core.List.{List, [], _∷_, _++_}
+use mathlib.Core.List.{List, [], _∷_, _++_, append-assoc}
 use lib.Dec.{T, T-not, eqb, eqb-refl}
 use Rattle.model.specs.Cxl0.{Machine, Location, Value, Topology, isMachine, isLocation, owner}
 use Rattle.model.specs.Cxl0.{WellFormed, State, start, initial, cached, crashes, clears}
-use Rattle.model.specs.Cxl0.{LStore, MStore, Load, LFlush, RFlush, Crash}
+use Rattle.model.specs.Cxl0.{LStore, MStore, Load, LFlush, RFlush, Crash, RMW, M}
 use Rattle.model.specs.Cxl0.{Event, Action, event, named, allNamed, enabled, possible, next}
 use Rattle.model.specs.Cxl0.{runs, after, Run, events, HasRun}
 use Rattle.model.specs.Sharers.{has, insert, remove}
@@ -24,6 +24,7 @@ use Rattle.model.proofs.Decision.{good, everyBelow, decide, decide-corr
 use Rattle.model.proofs.Goes.{first, parts, runs-append, events-append}
 use Rattle.model.proofs.Stores.{mstore-uncached}
 use Rattle.model.proofs.InMemory.{reads}
+use Rattle.model.proofs.SideBySide.{has-run-both}
 
 module _ (sys : Topology) (w : WellFormed sys) (x : Location) (p : T (sys .persistent (owner sys x))) where
   -- From any state in which an RFlush of x is possible, through any crashes, silent steps and other events:
@@ -69,6 +70,15 @@ module _ (sys : Topology) (w : WellFormed sys) (x : Location) (p : T (sys .persi
       let es = MStore i x v ∷ between ++ Load j x u ∷ rest in
       let q = parts sys before es (start sys) (r .0, r .1, r .2, refl) in
       mstored-from i j u v between rest (q .0) (q .2) n
+
+  -- Nor is a completed M-RMW: what it wrote is read until another store of x.
+  pub rmw-kept : (i j : Machine) (u v r : Value) (before between rest : List Event)
+      → HasRun sys (before ++ (RMW M i x r v ∷ between ++ Load j x u ∷ rest)) → NoStore x between → u ≡ v
+  rmw-kept i j u v r before between rest run n =
+      let es = between ++ Load j x u ∷ rest in
+      let apart = has-run-both sys M i x r v w before es .0 run in
+      let grouped = rw (← append-assoc before (Load i x r ∷ []) (MStore i x v ∷ es)) at apart in
+      mstored i j u v (before ++ Load i x r ∷ []) between rest grouped n
 
 -- ---- figure 5 of source 000
 
