@@ -11,7 +11,7 @@ use lib.Pow.{pow-pos}
 use Rattle.model.specs.Cxl0.{Machine, Location, Value, Topology, isMachine, isLocation, owner, initial}
 use Rattle.model.specs.Cxl0.{WellFormed, start, holds, agrees, someMachine, everyMachine, cached}
 use Rattle.model.specs.Cxl0.{LStore, RStore, MStore, Load, LFlush, RFlush, Crash, RMW, Form, L, R, M}
-use Rattle.model.specs.Cxl0.{Propagate, WriteBack, readable, stored, loaded}
+use Rattle.model.specs.Cxl0.{Propagate, WriteBack, readable, stored}
 use Rattle.model.specs.Cxl0.{Action, event, silent, crashes, clears, named, enabled, possible, next, runs}
 use Rattle.model.specs.Sharers.{has, insert, remove}
 use Rattle.model.specs.OneLocation.{Local, expand, concerns, eventAt, silentAt, enabledAt, locationOf, siteOf}

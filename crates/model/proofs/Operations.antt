@@ -2,7 +2,6 @@
 -- and what holds of the event at its number.
 use Prim.Native.Nat.{ℕ, suc, _≤_}
 use native.Mathlib.Nat.{eq-or-lt-of-le, not-le-of-lt}
-use native.Mathlib.Omega.{arith}
 use mathlib.Core.Path.{_≡_, refl, sym, subst}
 use mathlib.Core.Logic.{_≢_, ⊎-elim}
 use mathlib.Core.Bool.{Bool, true, false, cond, not, _&&_}

@@ -7,18 +7,13 @@ use mathlib.Core.List.{List, _∷_, _++_}
 use mathlib.Core.Option.{Option, none, some}
 use lib.Dec.{T, eqb}
 use Rattle.model.specs.Cxl0.{Machine, Location, Value, Topology, State, isMachine, isLocation, owner, start}
-use Rattle.model.specs.Cxl0.{Form, L, R, M, Event, LStore, RStore, MStore, Load, RMW, Action, event}
+use Rattle.model.specs.Cxl0.{Form, L, R, M, Load, RMW, Action, event}
 use Rattle.model.specs.Cxl0.{cached, also, stored, loaded, readable, named, enabled, possible, next}
 use Rattle.model.specs.Cxl0.{runs, after, Run}
 use Rattle.model.specs.OneLocation.{Site, Local, storedAt, loadedAt}
+use Rattle.model.specs.Goes.{storeOf}
 use Rattle.model.proofs.Tests.{by-test, T→true, not→false}
 use Rattle.model.proofs.Goes.{runs-append}
-
--- The store of a form.
-abbrev pub storeOf : Form → Machine → Location → Value → Event
-storeOf L i x v = LStore i x v
-storeOf R i x v = RStore i x v
-storeOf M i x v = MStore i x v
 
 -- ---- the state after it
 

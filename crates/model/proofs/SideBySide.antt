@@ -13,12 +13,12 @@ use Rattle.model.specs.Cxl0.{named, allNamed, HasRun}
 use Rattle.model.specs.OneLocation.{Local, Site, siteOf, written, readableAt, storedAt, loadedAt, locationOf}
 use Rattle.model.specs.OneLocation.{eventAt, concerns, enabledAt, effect, possibleAt, nextAt, startAt}
 use Rattle.model.specs.OneLocation.{HasRunAt, Silently, still, step}
+use Rattle.model.specs.Goes.{storeOf}
 use Rattle.model.proofs.Tests.{by-test, T→true, not→false, ne→test}
 use Rattle.model.proofs.Expand.{machine-bounds}
 use Rattle.model.proofs.SilentSteps.{normal-form}
 use Rattle.model.proofs.Gaps.{has-run-cons}
 use Rattle.model.proofs.Split.{split}
-use Rattle.model.proofs.ReadModifyWrites.{storeOf}
 
 -- Silent steps after silent steps.
 then-silently : {sys : Topology} {y : Location} {s t u : Local}

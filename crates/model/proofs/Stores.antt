@@ -20,8 +20,8 @@ use Rattle.model.proofs.Goes.{by-event, by-silent, in-turn, first, last
 
 -- The state after m's cache got v for x and every other one lost x: after LStore by m, and after RStore if m
 -- is the owner.
-abbrev pub stored : Machine → Location → Value → State → State
-stored m x v s = record { cache = only m x (some v) s; memory = s .memory }
+abbrev pub alone : Machine → Location → Value → State → State
+alone m x v s = record { cache = only m x (some v) s; memory = s .memory }
 
 -- Machine m's cache holds nothing for x.
 abbrev pub Lacks : Machine → Location → State → Type 0
@@ -46,21 +46,21 @@ steps-of x P f g (WriteBack y) t = subst (λ (y : Location). P (WriteBack y)) (e
 
 module _ (sys : Topology) (x : Location) (v : Value) where
   -- m holds x after the store, and no other machine does.
-  stored-holds : (m : Machine) (s : State) → T (holds (stored m x v s .cache m x))
+  stored-holds : (m : Machine) (s : State) → T (holds (alone m x v s .cache m x))
   stored-holds m s = rw (T→true {b = eqb x x} (eqb-refl x), T→true {b = eqb m m} (eqb-refl m)) tt
 
-  stored-lacks : (m j : Machine) (s : State) → j ≢ m → Lacks j x (stored m x v s)
+  stored-lacks : (m j : Machine) (s : State) → j ≢ m → Lacks j x (alone m x v s)
   stored-lacks m j s d = rw (T→true {b = eqb x x} (eqb-refl x), not→false {b = eqb j m} (ne→test j m d)) tt
 
-  holder : (m j : Machine) (s : State) → T (holds (stored m x v s .cache j x)) → j ≡ m
+  holder : (m j : Machine) (s : State) → T (holds (alone m x v s .cache j x)) → j ≡ m
   holder m j s h =
       by-test (eqb j m)
       (eqb→eq j m)
-      (λ t. absurd (T-not (holds (stored m x v s .cache j x)) (stored-lacks m j s (ne-test j m t)) h))
+      (λ t. absurd (T-not (holds (alone m x v s .cache j x)) (stored-lacks m j s (ne-test j m t)) h))
 
   -- The copy of another machine goes to the owner: RStore.
   pub move-stored : (i : Machine) (s : State) → i ≢ owner sys x
-      → next sys (silent (Propagate i x)) (stored i x v s) ≡ stored (owner sys x) x v s
+      → next sys (silent (Propagate i x)) (alone i x v s) ≡ alone (owner sys x) x v s
   unfolding next
   move-stored i s d = λ t. record { cache = λ j y. at j y t; memory = s .memory }
     where
@@ -71,8 +71,8 @@ module _ (sys : Topology) (x : Location) (v : Value) where
       pick false b n = refl
 
       at : (j : Machine) (y : Location)
-          → next sys (silent (Propagate i x)) (stored i x v s) .cache j y
-          ≡ stored (owner sys x) x v s .cache j y
+          → next sys (silent (Propagate i x)) (alone i x v s) .cache j y
+          ≡ alone (owner sys x) x v s .cache j y
       at j y =
           by-test (eqb y x)
           (λ t.
@@ -82,17 +82,17 @@ module _ (sys : Topology) (x : Location) (v : Value) where
 
   -- The copy of the owner goes to memory: MStore.
   pub write-stored : (i : Machine) (s : State)
-      → next sys (silent (WriteBack x)) (stored (owner sys x) x v s) ≡ next sys (event (MStore i x v)) s
+      → next sys (silent (WriteBack x)) (alone (owner sys x) x v s) ≡ next sys (event (MStore i x v)) s
   unfolding next
   write-stored i s = λ t. record { cache = λ j y. copies j y t; memory = λ y. value y t }
     where
       copies : (j : Machine) (y : Location)
-          → without x (stored (owner sys x) x v s) j y ≡ without x s j y
+          → without x (alone (owner sys x) x v s) j y ≡ without x s j y
       copies j y =
           by-test (eqb y x) (λ t. rw (T→true {b = eqb y x} t)) (λ t. rw (not→false {b = eqb y x} t))
 
       value : (y : Location)
-          → next sys (silent (WriteBack x)) (stored (owner sys x) x v s) .memory y
+          → next sys (silent (WriteBack x)) (alone (owner sys x) x v s) .memory y
           ≡ cond (eqb y x) v (s .memory y)
       value y =
           let k = owner sys x in
@@ -109,14 +109,14 @@ module _ (sys : Topology) (x : Location) (v : Value) where
 
   -- A silent step of another location asks for the same before the store and after it.
   apart-enabled : (m : Machine) (a : Silent) (s : State) → T (not (silentAt x a))
-      → enabled sys (silent a) (stored m x v s) ≡ enabled sys (silent a) s
+      → enabled sys (silent a) (alone m x v s) ≡ enabled sys (silent a) s
   unfolding enabled silentAt
   apart-enabled m (Propagate i y) s d = rw (away y d)
   apart-enabled m (WriteBack y) s d = rw (away y d)
 
   -- And it leads to the same state before the store and after it.
   apart-cache : (m : Machine) (a : Silent) (s : State) → T (not (silentAt x a)) → (j : Machine) (z : Location)
-      → next sys (silent a) (stored m x v s) .cache j z ≡ stored m x v (next sys (silent a) s) .cache j z
+      → next sys (silent a) (alone m x v s) .cache j z ≡ alone m x v (next sys (silent a) s) .cache j z
   unfolding next silentAt
   apart-cache m (Propagate i y) s d j z =
       by-test (eqb z x)
@@ -128,7 +128,7 @@ module _ (sys : Topology) (x : Location) (v : Value) where
       (λ t. rw (not→false {b = eqb z x} t))
 
   apart-memory : (m : Machine) (a : Silent) (s : State) → T (not (silentAt x a)) → (z : Location)
-      → next sys (silent a) (stored m x v s) .memory z ≡ next sys (silent a) s .memory z
+      → next sys (silent a) (alone m x v s) .memory z ≡ next sys (silent a) s .memory z
   unfolding next silentAt
   apart-memory m (Propagate i y) s d z = refl
   apart-memory m (WriteBack y) s d z =
@@ -137,7 +137,7 @@ module _ (sys : Topology) (x : Location) (v : Value) where
       (λ t. rw (not→false {b = eqb z x} t))
 
   apart-next : (m : Machine) (a : Silent) (s : State) → T (not (silentAt x a))
-      → next sys (silent a) (stored m x v s) ≡ stored m x v (next sys (silent a) s)
+      → next sys (silent a) (alone m x v s) ≡ alone m x v (next sys (silent a) s)
   apart-next m a s d =
       λ t. record { cache = λ j y. apart-cache m a s d j y t; memory = λ y. apart-memory m a s d y t }
 
@@ -146,22 +146,22 @@ module _ (sys : Topology) (x : Location) (v : Value) where
   -- Each silent step of x that is possible after the store leads where the event e leads.
   abbrev Becomes : Machine → Event → Type 0
   Becomes m e =
-      (a : Silent) → T (silentAt x a) → (s : State) → T (enabled sys (silent a) (stored m x v s))
-      → next sys (silent a) (stored m x v s) ≡ next sys (event e) s
+      (a : Silent) → T (silentAt x a) → (s : State) → T (enabled sys (silent a) (alone m x v s))
+      → next sys (silent a) (alone m x v s) ≡ next sys (event e) s
 
   -- m's copy goes by a silent step of x. Those of other locations before it could as well come before the
   -- store. So e leads wherever silent steps lead that end without m's copy.
   gone : (m : Machine) (e : Event) → ((s : State) → T (possible sys (event e) s)) → Becomes m e
-      → (acts : List Action) (s : State) → events acts ≡ [] → T (runs sys acts (stored m x v s))
-      → Lacks m x (after sys acts (stored m x v s))
-      → Goes sys (e ∷ []) s (after sys acts (stored m x v s))
+      → (acts : List Action) (s : State) → events acts ≡ [] → T (runs sys acts (alone m x v s))
+      → Lacks m x (after sys acts (alone m x v s))
+      → Goes sys (e ∷ []) s (after sys acts (alone m x v s))
   unfolding events runs after possible
-  gone m e can becomes [] s p r h = absurd (T-not (holds (stored m x v s .cache m x)) h (stored-holds m s))
+  gone m e can becomes [] s p r h = absurd (T-not (holds (alone m x v s .cache m x)) h (stored-holds m s))
   gone m e can becomes (event d ∷ acts) s p r h = absurd (cons≢nil p)
   gone m e can becomes (silent a ∷ acts) s p r h =
-      let u = next sys (silent a) (stored m x v s) in
+      let u = next sys (silent a) (alone m x v s) in
       let names = named sys (silent a) in
-      let asks = enabled sys (silent a) (stored m x v s) in
+      let asks = enabled sys (silent a) (alone m x v s) in
       let c = and-l (names && asks) (runs sys acts u) r in
       let rest = and-r (names && asks) (runs sys acts u) r in
       by-test (silentAt x a)
@@ -178,7 +178,7 @@ module _ (sys : Topology) (x : Location) (v : Value) where
       rw same (in-turn sys s first on))
 
   -- The same for the way by an event d that is a store at m, if e is possible where d is.
-  gone-by : (m : Machine) (d e : Event) → ((s : State) → next sys (event d) s ≡ stored m x v s)
+  gone-by : (m : Machine) (d e : Event) → ((s : State) → next sys (event d) s ≡ alone m x v s)
       → ((s t : State) → T (possible sys (event d) s) → T (possible sys (event e) t)) → Becomes m e
       → {s' : State} (s : State) → Goes sys (d ∷ []) s s' → Lacks m x s' → Goes sys (e ∷ []) s s'
   gone-by m d e is can becomes {s'} s p h =
@@ -194,7 +194,7 @@ module _ (sys : Topology) (x : Location) (v : Value) where
       → Goes sys (RStore i x v ∷ []) s (next sys (event (LStore i x v)) s)
   unfolding next possible named enabled
   owner-lstore i e s c =
-      subst (λ (m : Machine). Goes sys (RStore i x v ∷ []) s (stored m x v s)) (sym e)
+      subst (λ (m : Machine). Goes sys (RStore i x v ∷ []) s (alone m x v s)) (sym e)
       (by-event sys (RStore i x v) s c)
 
   -- LStore leads where RStore leads, if its copy is gone at the end.
@@ -210,7 +210,7 @@ module _ (sys : Topology) (x : Location) (v : Value) where
       gone-by i (LStore i x v) (RStore i x v) (λ u. refl) (λ u w c. c)
       (steps-of x _
       (λ j u q.
-      let e = holder i j u (and-r (not (eqb j k)) (holds (stored i x v u .cache j x)) q) in
+      let e = holder i j u (and-r (not (eqb j k)) (holds (alone i x v u .cache j x)) q) in
       rw e (move-stored i u d))
       (λ u q. absurd (d (sym (holder i k u q)))))
       s p h)
@@ -224,8 +224,8 @@ module _ (sys : Topology) (x : Location) (v : Value) where
       gone-by k (RStore i x v) (MStore i x v) (λ s. refl) (λ s t c. c)
       (steps-of x _
       (λ j s q.
-      let l = and-l (not (eqb j k)) (holds (stored k x v s .cache j x)) q in
-      let h = and-r (not (eqb j k)) (holds (stored k x v s .cache j x)) q in
+      let l = and-l (not (eqb j k)) (holds (alone k x v s .cache j x)) q in
+      let h = and-r (not (eqb j k)) (holds (alone k x v s .cache j x)) q in
       absurd (ne-test j k l (holder k j s h)))
       (λ s q. write-stored i s))
 
@@ -240,10 +240,10 @@ module _ (sys : Topology) (x : Location) (v : Value) where
       let fit = isMachine sys i && isLocation sys x in
       let store = by-event sys (LStore i x v) s c in
       by-test (eqb i k)
-      (λ t. subst (λ (m : Machine). Goes sys (LStore i x v ∷ []) s (stored m x v s)) (eqb→eq i k t) store)
+      (λ t. subst (λ (m : Machine). Goes sys (LStore i x v ∷ []) s (alone m x v s)) (eqb→eq i k t) store)
       (λ t.
-      let p = and-i (not (eqb i k)) (holds (stored i x v s .cache i x)) t (stored-holds i s) in
-      let move = by-silent sys (Propagate i x) (stored i x v s) (and-i fit _ (and-l fit true c) p) in
+      let p = and-i (not (eqb i k)) (holds (alone i x v s .cache i x)) t (stored-holds i s) in
+      let move = by-silent sys (Propagate i x) (alone i x v s) (and-i fit _ (and-l fit true c) p) in
       rw (← move-stored i s (ne-test i k t)) (in-turn sys s store move))
 
   -- RStore, and then a write-back, is MStore.
@@ -254,8 +254,8 @@ module _ (sys : Topology) (x : Location) (v : Value) where
       let k = owner sys x in
       let fit = isMachine sys i && isLocation sys x in
       let l = and-r (isMachine sys i) (isLocation sys x) (and-l fit true c) in
-      let p = and-i (isLocation sys x) (holds (stored k x v s .cache k x)) l (stored-holds k s) in
-      let write = by-silent sys (WriteBack x) (stored k x v s) p in
+      let p = and-i (isLocation sys x) (holds (alone k x v s .cache k x)) l (stored-holds k s) in
+      let write = by-silent sys (WriteBack x) (alone k x v s) p in
       rw (← write-stored i s) (in-turn sys s (by-event sys (RStore i x v) s c) write)
 
   -- ---- a store and a flush
@@ -269,7 +269,7 @@ module _ (sys : Topology) (x : Location) (v : Value) where
       let k = owner sys x in
       let fit = isMachine sys j && isLocation sys x in
       let p = and-i fit _ (and-l fit true c) (stored-lacks k j s d) in
-      in-turn sys s (by-event sys (RStore j x v) s c) (by-event sys (LFlush j x) (stored k x v s) p)
+      in-turn sys s (by-event sys (RStore j x v) s c) (by-event sys (LFlush j x) (alone k x v s) p)
 
   -- After MStore no cache holds x, so that RFlush is possible.
   pub mstore-uncached : (i : Machine) (s : State) → T (not (cached sys (next sys (event (MStore i x v)) s) x))

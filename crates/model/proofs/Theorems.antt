@@ -12,6 +12,7 @@ use Rattle.model.specs.Cxl0.{Form, Load, RMW, Event, Action, event, allN
 use Rattle.model.specs.Cxl0.{count, isStore, isLoad}
 use Rattle.model.specs.Schedule.{Step, weave, schedule, inOrder}
 use Rattle.model.specs.OneLocation.{Local, startAt, runsAt, HasRunAt, Moves, Silently}
+use Rattle.model.specs.Goes.{storeOf}
 use Rattle.model.specs.MarkedLogs.{MarkedLog, Verdict, logs}
 use Rattle.model.proofs.CopiesAgree
 use Rattle.model.proofs.Bound
@@ -21,7 +22,6 @@ use Rattle.model.proofs.Decision
 use Rattle.model.proofs.Prefixes
 use Rattle.model.proofs.Weaving
 use Rattle.model.proofs.ReadModifyWrites
-use Rattle.model.proofs.ReadModifyWrites.{storeOf}
 use Rattle.model.proofs.SideBySide
 use Rattle.model.proofs.MarkedLogs as marked
 

@@ -2,9 +2,7 @@
 use borrow.Author.Needs.{needs}
 use mathlib.Core.Path.{sym, _∙_}
 use mathlib.Core.Bool.{true≢false}
-use lib.Dec.{T}
-use Rattle.model.specs.OneLocation.{readableAt}
-use Rattle.rows.specs.Rows.{state, Fine}
+use Rattle.rows.specs.Rows.{Fine}
 use Rattle.rows.proofs.FineRows.{no-state, passed}
 use Rattle.rows.proofs.m_rmw_row.Statement.{statement}
 use Rattle.rows.proofs.m_rmw_row.Tie as tie

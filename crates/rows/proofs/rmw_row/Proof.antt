@@ -3,7 +3,7 @@
 use borrow.Author.Needs.{needs}
 use mathlib.Core.Path.{_≡_, sym, _∙_}
 use mathlib.Core.Logic.{inl, inr, ⊎-elim}
-use mathlib.Core.Bool.{true, true≢false}
+use mathlib.Core.Bool.{true≢false}
 use Rattle.rows.specs.Rows.{Fine}
 use Rattle.rows.proofs.FineRows.{no-state, passed, in-place}
 use Rattle.rows.proofs.rmw_row.Statement.{statement}
