@@ -1,14 +1,15 @@
 -- CXL0: what a system of machines that share memory over Compute Express Link may do, in the words of document 01,
--- "The model" (from source 000, section 3.3), with the read-modify-writes of request W-201. Malluvom's promises are
--- stated over this page and `Schedule`.
+-- "The model" (from source 000, section 3.3), with the read-modify-writes of request W-201 and the set crashes of W-203.
+-- Malluvom's promises are stated over this page and `Schedule`.
 -- A test is a Bool; each event and each silent step has one clause in `enabled` and one in `next`.
-use Prim.Native.Nat.{ℕ, zero, suc, _≤_, _<_}
+use Prim.Native.Nat.{ℕ, zero, suc, _^_, _≤_, _<_}
 use mathlib.Core.Path.{_≡_}
 use mathlib.Core.Bool.{Bool, true, false, cond, not, _&&_, _||_}
 use mathlib.Core.List.{List, [], _∷_}
 use mathlib.Core.Option.{Option, none, some, Option·getD}
 use lib.Dec.{T, leb, ltb, eqb}
 use lib.ListN.{length, getD, take}
+use Rattle.model.specs.Sharers.{has}
 
 -- ---- the system
 
@@ -21,6 +22,10 @@ Location = ℕ
 
 abbrev pub Value : Type 0
 Value = ℕ
+
+-- A set of machines is a number whose bit i - 1 is set if machine i is in the set (`has` of `Sharers`).
+abbrev pub MachineSet : Type 0
+MachineSet = ℕ
 
 -- Where a location lives: in the memory of the machine that owns it.
 pub record Home : Type 0 where
@@ -91,11 +96,12 @@ pub data Form : Type 0 where
   L R M : Form
 
 -- What a log records: by machine i, on location x, of value v. A read-modify-write (source 000, appendix A: L-RMW,
--- R-RMW and M-RMW, by the form of its store) reads v and writes w.
+-- R-RMW and M-RMW, by the form of its store) reads v and writes w. In a set crash all machines of a set crash together.
 pub data Event : Type 0 where
   LStore RStore MStore Load : (i : Machine) (x : Location) (v : Value) → Event
   LFlush RFlush : (i : Machine) (x : Location) → Event
   Crash : (i : Machine) → Event
+  SetCrash : (set : MachineSet) → Event
   RMW : (form : Form) (i : Machine) (x : Location) (v w : Value) → Event
 
 -- What nobody sees (document 01: silent steps). `Propagate` is its move: i's copy goes to the owner's cache.
@@ -116,6 +122,7 @@ crashes (Load i x v) j = false
 crashes (LFlush i x) j = false
 crashes (RFlush i x) j = false
 crashes (Crash i) j = eqb j i
+crashes (SetCrash set) j = has j set
 crashes (RMW form i x v w) j = false
 
 -- The memory of a location is lost in a crash of its owner, if the owner's memory is volatile.
@@ -131,6 +138,8 @@ named sys (event (Load i x v)) = isMachine sys i && isLocation sys x
 named sys (event (LFlush i x)) = isMachine sys i && isLocation sys x
 named sys (event (RFlush i x)) = isMachine sys i && isLocation sys x
 named sys (event (Crash i)) = isMachine sys i
+-- no machine above the last one is in the set
+named sys (event (SetCrash set)) = ltb set (2 ^ (sys .machines))
 named sys (event (RMW form i x v w)) = isMachine sys i && isLocation sys x
 named sys (silent (Propagate i x)) = isMachine sys i && isLocation sys x
 named sys (silent (WriteBack x)) = isLocation sys x
@@ -151,6 +160,7 @@ enabled sys (event (LFlush i x)) s = not (holds (s .cache i x))
 -- no cache holds x
 enabled sys (event (RFlush i x)) s = not (cached sys s x)
 enabled sys (event (Crash i)) s = true
+enabled sys (event (SetCrash set)) s = true
 -- what its load asks: its store asks nothing
 enabled sys (event (RMW form i x v w)) s = readable sys x v s
 -- i is not the owner, and its cache holds x
@@ -183,6 +193,15 @@ stored sys M i x v s = record { cache = without x s; memory = λ y. cond (eqb y 
 abbrev pub loaded : Topology → Machine → Location → Value → State → State
 loaded sys i x v s = cond (cached sys s x) (record { cache = also i x (some v) s; memory = s .memory }) s
 
+-- The state after a crash, of one machine or of several in one step: the cache of each machine that crashes is emptied;
+-- where its memory is volatile, the locations that it owns return to their initial value.
+abbrev pub crashed : Topology → Event → State → State
+crashed sys e s =
+    record {
+      cache = λ j y. cond (crashes e j) none (s .cache j y);
+      memory = λ y. cond (clears sys e y) (initial sys y) (s .memory y);
+    }
+
 -- The state after an action. It is meant only where the action is possible.
 unfoldable pub next : Topology → Action → State → State
 next sys (event (LStore i x v)) s = stored sys L i x v s
@@ -191,12 +210,8 @@ next sys (event (MStore i x v)) s = stored sys M i x v s
 next sys (event (Load i x v)) s = loaded sys i x v s
 next sys (event (LFlush i x)) s = s
 next sys (event (RFlush i x)) s = s
--- i's cache is emptied; where i's memory is volatile, the locations that i owns return to their initial value
-next sys (event (Crash i)) s =
-    record {
-      cache = λ j y. cond (crashes (Crash i) j) none (s .cache j y);
-      memory = λ y. cond (clears sys (Crash i) y) (initial sys y) (s .memory y);
-    }
+next sys (event (Crash i)) s = crashed sys (Crash i) s
+next sys (event (SetCrash set)) s = crashed sys (SetCrash set) s
 -- a load of v and the store of w, with nothing between them
 next sys (event (RMW form i x v w)) s = stored sys form i x w (loaded sys i x v s)
 -- i loses x, and the owner's cache gets the value that i's held
@@ -275,6 +290,7 @@ isStore (Load i x v) = false
 isStore (LFlush i x) = false
 isStore (RFlush i x) = false
 isStore (Crash i) = false
+isStore (SetCrash set) = false
 isStore (RMW form i x v w) = true
 
 unfoldable pub isLoad : Event → Bool
@@ -285,4 +301,5 @@ isLoad (Load i x v) = true
 isLoad (LFlush i x) = false
 isLoad (RFlush i x) = false
 isLoad (Crash i) = false
+isLoad (SetCrash set) = false
 isLoad (RMW form i x v w) = false

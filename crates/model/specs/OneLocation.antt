@@ -8,9 +8,10 @@ use mathlib.Core.List.{List, [], _∷_}
 use mathlib.Core.Option.{Option, none, some}
 use lib.Dec.{T, eqb}
 use Rattle.model.specs.Cxl0.{Machine, Location, Value, Topology, owner, initial, State, crashes, events}
-use Rattle.model.specs.Cxl0.{Event, LStore, RStore, MStore, Load, LFlush, RFlush, Crash, RMW, Form, L, R, M}
+use Rattle.model.specs.Cxl0.{Event, LStore, RStore, MStore, Load, LFlush, RFlush, Crash, SetCrash}
+use Rattle.model.specs.Cxl0.{RMW, Form, L, R, M}
 use Rattle.model.specs.Cxl0.{Silent, Propagate, WriteBack, Action, event, silent}
-use Rattle.model.specs.Sharers.{has, insert, remove}
+use Rattle.model.specs.Sharers.{has, insert, remove, removeAll}
 
 -- The short form of a location. The copies agree in value, so that a code and one value say what every cache holds;
 -- where the code is 0, no cache has `copy`.
@@ -36,18 +37,8 @@ locationOf (Load i y v) = some y
 locationOf (LFlush i y) = some y
 locationOf (RFlush i y) = some y
 locationOf (Crash i) = none
+locationOf (SetCrash set) = none
 locationOf (RMW form i y v w) = some y
-
--- The machine that an event names.
-abbrev pub machineOf : Event → Machine
-machineOf (LStore i y v) = i
-machineOf (RStore i y v) = i
-machineOf (MStore i y v) = i
-machineOf (Load i y v) = i
-machineOf (LFlush i y) = i
-machineOf (RFlush i y) = i
-machineOf (Crash i) = i
-machineOf (RMW form i y v w) = i
 
 abbrev pub isHere : Location → Option Location → Bool
 isHere x (some y) = eqb x y
@@ -110,6 +101,7 @@ enabledAt k (event (Load i y v)) s = readableAt v s
 enabledAt k (event (LFlush i y)) s = not (has i (s .code))
 enabledAt k (event (RFlush i y)) s = eqb (s .code) 0
 enabledAt k (event (Crash i)) s = true
+enabledAt k (event (SetCrash set)) s = true
 enabledAt k (event (RMW form i y v w)) s = readableAt v s
 enabledAt k (silent (Propagate i y)) s = not (eqb i (k .owner)) && has i (s .code)
 enabledAt k (silent (WriteBack y)) s = has (k .owner) (s .code)
@@ -128,6 +120,11 @@ abbrev pub loadedAt : Machine → Local → Local
 loadedAt i s =
     record { code = cond (eqb (s .code) 0) 0 (insert i (s .code)); copy = s .copy; memory = s .memory }
 
+-- And after a crash that leaves the copies of code c.
+abbrev pub crashedAt : Site → Event → ℕ → Local → Local
+crashedAt k e c s =
+    record { code = c; copy = s .copy; memory = cond (clearsSite e k) (k .initial) (s .memory) }
+
 -- The short form of a location after an action that concerns it.
 unfoldable pub effect : Site → Action → Local → Local
 effect k (event (LStore i y v)) s = storedAt k L i v s
@@ -136,12 +133,8 @@ effect k (event (MStore i y v)) s = storedAt k M i v s
 effect k (event (Load i y v)) s = loadedAt i s
 effect k (event (LFlush i y)) s = s
 effect k (event (RFlush i y)) s = s
-effect k (event (Crash i)) s =
-    record {
-      code = remove i (s .code);
-      copy = s .copy;
-      memory = cond (clearsSite (Crash i) k) (k .initial) (s .memory);
-    }
+effect k (event (Crash i)) s = crashedAt k (Crash i) (remove i (s .code)) s
+effect k (event (SetCrash set)) s = crashedAt k (SetCrash set) (removeAll set (s .code)) s
 effect k (event (RMW form i y v w)) s = storedAt k form i w (loadedAt i s)
 effect k (silent (Propagate i y)) s =
     record { code = moved (k .owner) i (s .code); copy = s .copy; memory = s .memory }
