@@ -8,21 +8,25 @@ use mathlib.Core.Bool.{Bool, true, false, cond}
 use mathlib.Core.List.{List, [], _∷_}
 use lib.Dec.{ltb, ltb→lt, nltb→le}
 use lib.ListN.{length}
-use Rattle.model.specs.Cxl0.{Location, Event, LStore, RStore, MStore, Load, LFlush, RFlush, Crash, RMW}
+use Rattle.model.specs.Cxl0.{Location, Event, LStore, RStore, MStore, Load, LFlush, RFlush, Crash, SetCrash, RMW}
 use Rattle.model.specs.Cxl0.{event, count, isStore, isLoad}
 use Rattle.model.specs.OneLocation.{eventAt}
 use Rattle.model.proofs.Tests.{by-test, not→false, ne→test}
 use Rattle.model.specs.Sums.{sum}
 use Rattle.model.proofs.Sums.{sum-zero, sum-le, sum-at}
 use Rattle.model.proofs.Potential.{gain}
-use Rattle.model.proofs.Locations.{AtOne, located}
+use Rattle.model.proofs.Locations.{AtOne, IsCrash, single, several, located}
 use Rattle.model.specs.Allowance.{allowance}
 use Rattle.model.proofs.Allowance.{allowance-cons}
 
 -- An event is at one location, or it is a crash and adds nothing.
-at-one : (e : Event) → AtOne e ⊎ (gain (event e) ≡ 0)
+crash-gain : {e : Event} → IsCrash e → gain (event e) ≡ 0
 unfolding gain isStore isLoad
-at-one e = ⊎-elim inl (λ crash. inr (rw (crash .1) refl)) (located e)
+crash-gain (single i) = refl
+crash-gain (several set) = refl
+
+at-one : (e : Event) → AtOne e ⊎ (gain (event e) ≡ 0)
+at-one e = ⊎-elim inl (λ crash. inr (crash-gain crash)) (located e)
 
 gain-few : (e : Event) → gain (event e) ≤ 2
 unfolding gain isStore isLoad
@@ -33,6 +37,7 @@ gain-few (Load i z v) = omega arith
 gain-few (LFlush i z) = omega arith
 gain-few (RFlush i z) = omega arith
 gain-few (Crash i) = omega arith
+gain-few (SetCrash set) = omega arith
 gain-few (RMW form i z v w) = omega arith
 
 cond-le : (b : Bool) (k : ℕ) → cond b k 0 ≤ k

@@ -9,7 +9,8 @@ use mathlib.Core.List.{List, [], _∷_}
 use lib.Dec.{T, eqb, eqb-refl, ltb→lt, lt→ltb}
 use lib.ListN.{length}
 use Rattle.model.specs.Cxl0.{Location, Topology, WellFormed, isMachine, isLocation, named, allNamed}
-use Rattle.model.specs.Cxl0.{LStore, RStore, MStore, Load, LFlush, RFlush, Crash, RMW, Propagate, WriteBack}
+use Rattle.model.specs.Cxl0.{LStore, RStore, MStore, Load, LFlush, RFlush, Crash, SetCrash, RMW}
+use Rattle.model.specs.Cxl0.{Propagate, WriteBack}
 use Rattle.model.specs.Cxl0.{Event, Action, event, silent, Run, events, silents, count, isStore, isLoad}
 use Rattle.model.specs.OneLocation.{Local, silentAt, concerns}
 use Rattle.model.specs.OneLocation.{possibleAt, nextAt, startAt, runsAt}
@@ -18,19 +19,24 @@ use Rattle.model.specs.Sums.{sum}
 use Rattle.model.proofs.Sums.{sum-zero, sum-le, sum-at}
 use Rattle.model.proofs.Potential.{one, rank, rank-start, gain, loss, rank-step}
 use Rattle.model.proofs.Split.{split-run}
-use Rattle.model.proofs.Locations.{located, named-location}
+use Rattle.model.proofs.Locations.{IsCrash, single, several, located, named-location}
 
 -- A listed location that action a concerns, and the only one.
 abbrev OnlyAt : Topology → Action → Type 0
 OnlyAt sys a = (y : Location) × T (isLocation sys y) × ((x : Location) → concerns x a ≡ eqb x y)
 
 -- An action concerns one location, or it is a crash, which may add nothing and has nothing to take away.
+crash-adds : {e : Event} → IsCrash e → (gain (event e) ≡ 0) × (loss (event e) ≡ 0)
+unfolding gain loss isStore isLoad
+crash-adds (single i) = (refl, refl)
+crash-adds (several set) = (refl, refl)
+
 only-at : (sys : Topology) (a : Action) → T (named sys a) → OnlyAt sys a ⊎ ((gain a ≡ 0) × (loss a ≡ 0))
-unfolding named concerns silentAt gain loss isStore isLoad
+unfolding named concerns silentAt
 only-at sys (event e) m =
     ⊎-elim
     (λ at. inl (at .0, named-location sys e (at .1) m, at .2))
-    (λ crash. inr (rw (crash .1) (refl, refl)))
+    (λ crash. inr (crash-adds crash))
     (located e)
 only-at sys (silent (Propagate i y)) m = inl (y, and-r (isMachine sys i) (isLocation sys y) m, λ x. refl)
 only-at sys (silent (WriteBack y)) m = inl (y, m, λ x. refl)
@@ -139,6 +145,7 @@ budget-le (Load i x v ∷ es) = omega (arith, budget-le es)
 budget-le (LFlush i x ∷ es) = omega (arith, budget-le es)
 budget-le (RFlush i x ∷ es) = omega (arith, budget-le es)
 budget-le (Crash i ∷ es) = omega (arith, budget-le es)
+budget-le (SetCrash set ∷ es) = omega (arith, budget-le es)
 budget-le (RMW form i x v w ∷ es) = omega (arith, budget-le es)
 
 -- A run of a log, which has at most 128 events, has at most 256 silent steps.

@@ -10,16 +10,16 @@ use lib.Dec.{T, leb, eqb, eqb→eq, eqb-refl, leb→le}
 use lib.Pow.{pow-pos}
 use Rattle.model.specs.Cxl0.{Machine, Location, Value, Topology, isMachine, isLocation, owner, initial}
 use Rattle.model.specs.Cxl0.{WellFormed, start, holds, agrees, someMachine, everyMachine, cached}
-use Rattle.model.specs.Cxl0.{LStore, RStore, MStore, Load, LFlush, RFlush, Crash, RMW, Form, L, R, M}
-use Rattle.model.specs.Cxl0.{Propagate, WriteBack, readable, stored}
+use Rattle.model.specs.Cxl0.{LStore, RStore, MStore, Load, LFlush, RFlush, Crash, SetCrash}
+use Rattle.model.specs.Cxl0.{RMW, Form, L, R, M, Propagate, WriteBack, readable, stored}
 use Rattle.model.specs.Cxl0.{Action, event, silent, crashes, clears, named, enabled, possible, next, runs}
 use Rattle.model.specs.Sharers.{has, insert, remove}
 use Rattle.model.specs.OneLocation.{Local, expand, concerns, eventAt, silentAt, enabledAt, locationOf, siteOf}
 use Rattle.model.specs.OneLocation.{readableAt, moved, storedAt, loadedAt, effect, nextAt, startAt}
 use Rattle.model.proofs.Tests.{by-test, T→true, not→false, and-l, and-r, ne-test, same-test}
 use Rattle.model.proofs.Machines.{every-e, every-i}
-use Rattle.model.proofs.Sharers.{has-insert, has-remove, has-none, insert-bound, remove-le, member}
-use Rattle.model.proofs.Sharers.{some-has}
+use Rattle.model.proofs.Sharers.{has-insert, has-remove, has-remove-all, has-none, insert-bound}
+use Rattle.model.proofs.Sharers.{remove-le, remove-all-le, member, some-has}
 use Rattle.model.proofs.ReadModifyWrites.{store-settles, settles-at}
 
 -- Each code is that of a set of machines of the system.
@@ -80,6 +80,7 @@ enabled-expand sys f r (event (LFlush i y)) x t =
 enabled-expand sys f r (event (RFlush i y)) x t =
     rw (eqb→eq x y t, cached-expand sys f r y) (Bool·not-not (eqb (f y .code) 0))
 enabled-expand sys f r (event (Crash i)) x t = refl
+enabled-expand sys f r (event (SetCrash set)) x t = refl
 enabled-expand sys f r (event (RMW form i y v w)) x t = rw (eqb→eq x y t) (readable-expand sys f r y v)
 enabled-expand sys f r (silent (Propagate i y)) x t =
     rw (eqb→eq x y t) (ap (λ b. not (eqb i (owner sys y)) && b) (holds-shown (has i (f y .code)) (f y .copy)))
@@ -118,10 +119,10 @@ also-shown i j s v l e = rw (has-insert-of i j (s .code) l) (go (eqb j i) (has j
     go true b = ap some (sym e)
     go false b = refl
 
--- The caches where machine i's loses its copy.
-less-shown : (i j : Machine) (s : Local)
-    → cond (eqb j i) none (shown j s) ≡ cond (has j (remove i (s .code))) (some (s .copy)) none
-less-shown i j s = rw (has-remove i j (s .code)) (go (eqb j i) (has j (s .code)))
+-- The caches where machine j's loses its copy if it is among those that are gone.
+less-shown : (gone : Bool) (j : Machine) (s : Local) (c : ℕ) → has j c ≡ (not gone && has j (s .code))
+    → cond gone none (shown j s) ≡ cond (has j c) (some (s .copy)) none
+less-shown gone j s c e = rw e (go gone (has j (s .code)))
   where
     go : (a b : Bool) → cond a none (cond b (some (s .copy)) none) ≡ cond (not a && b) (some (s .copy)) none
     go true b = refl
@@ -208,7 +209,9 @@ next-cache sys f w r (event (MStore i x v)) n h j y = store-cache sys f w M i x 
 next-cache sys f w r (event (Load i x v)) n h j y = load-cache sys f r i x v (by-bounds sys i x n .0) h j y
 next-cache sys f w r (event (LFlush i x)) n h j y = kept (shown j) (eqb y x) (f y) (f y) (λ t. refl)
 next-cache sys f w r (event (RFlush i x)) n h j y = kept (shown j) (eqb y x) (f y) (f y) (λ t. refl)
-next-cache sys f w r (event (Crash i)) n h j y = less-shown i j (f y)
+next-cache sys f w r (event (Crash i)) n h j y = less-shown (eqb j i) j (f y) _ (has-remove i j (f y .code))
+next-cache sys f w r (event (SetCrash set)) n h j y =
+    less-shown (has j set) j (f y) _ (has-remove-all set j (f y .code))
 next-cache sys f w r (event (RMW form i x v u)) n h j y =
     rw (store-settles sys i x v (expand f) form u, settles-at (siteOf sys y) form i u (f y))
     (store-cache sys f w form i x u n j y)
@@ -245,6 +248,7 @@ next-memory sys f (event (Load i x v)) h y =
 next-memory sys f (event (LFlush i x)) h y = kept memory-of (eqb y x) (f y) (f y) (λ t. refl)
 next-memory sys f (event (RFlush i x)) h y = kept memory-of (eqb y x) (f y) (f y) (λ t. refl)
 next-memory sys f (event (Crash i)) h y = refl
+next-memory sys f (event (SetCrash set)) h y = refl
 next-memory sys f (event (RMW form i x v w)) h y =
     rw (store-settles sys i x v (expand f) form w, settles-at (siteOf sys y) form i w (f y))
     (store-memory sys f form i x w y)
@@ -320,6 +324,7 @@ effect-bound sys x w (event (Load i y v)) s n t h =
 effect-bound sys x w (event (LFlush i y)) s n t h = h
 effect-bound sys x w (event (RFlush i y)) s n t h = h
 effect-bound sys x w (event (Crash i)) s n t h = omega (arith, remove-le i (s .code))
+effect-bound sys x w (event (SetCrash set)) s n t h = omega (arith, remove-all-le set (s .code))
 effect-bound sys x w (event (RMW form i y v u)) s n t h =
     store-bound sys x form i u (loadedAt i s) (by-bounds sys i y n) (rw (eqb→eq x y t) (owner-bounds sys w i y n))
 effect-bound sys x w (silent (Propagate i y)) s n t h =

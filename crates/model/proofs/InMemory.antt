@@ -8,8 +8,9 @@ use mathlib.Core.List.{List, [], _∷_, _++_}
 use mathlib.Core.Option.{Option, none}
 use lib.Dec.{T, T-not, eqb, eqb→eq}
 use Rattle.model.specs.Cxl0.{Machine, Location, Value, Topology, isMachine, isLocation, owner}
-use Rattle.model.specs.Cxl0.{WellFormed, State, holds, someMachine, cached, crashes, clears}
-use Rattle.model.specs.Cxl0.{LStore, RStore, MStore, Load, LFlush, RFlush, Crash, RMW, Form, L, R, M}
+use Rattle.model.specs.Cxl0.{WellFormed, State, holds, someMachine, cached, crashes, clears, crashed}
+use Rattle.model.specs.Cxl0.{LStore, RStore, MStore, Load, LFlush, RFlush, Crash, SetCrash}
+use Rattle.model.specs.Cxl0.{RMW, Form, L, R, M}
 use Rattle.model.specs.Cxl0.{Propagate, WriteBack, stored}
 use Rattle.model.specs.Cxl0.{Event, Silent, Action, event, silent, named, enabled, possible, next}
 use Rattle.model.specs.Cxl0.{runs, after, events, count, isStore}
@@ -49,6 +50,7 @@ apart-cache sys x (event (Load i y v)) s d j = load-apart sys i y v s j x (not�
 apart-cache sys x (event (LFlush i y)) s d j = refl
 apart-cache sys x (event (RFlush i y)) s d j = refl
 apart-cache sys x (event (Crash i)) s d j = absurd d
+apart-cache sys x (event (SetCrash set)) s d j = absurd d
 apart-cache sys x (event (RMW form i y v w)) s d j =
     rw (store-settles sys i y v s form w) (store-apart-cache sys x y form i w s (not→false d) j)
 apart-cache sys x (silent (Propagate i y)) s d j = rw (not→false {b = eqb x y} d)
@@ -64,6 +66,7 @@ apart-memory sys x (event (Load i y v)) s d = load-memory sys i y v s x
 apart-memory sys x (event (LFlush i y)) s d = refl
 apart-memory sys x (event (RFlush i y)) s d = refl
 apart-memory sys x (event (Crash i)) s d = absurd d
+apart-memory sys x (event (SetCrash set)) s d = absurd d
 apart-memory sys x (event (RMW form i y v w)) s d =
     rw (store-settles sys i y v s form w) (store-apart-memory sys x y form i w s (not→false d))
 apart-memory sys x (silent (Propagate i y)) s d = refl
@@ -83,22 +86,30 @@ apart-kept sys x m a s d h = (rw (apart-cached sys x a s d) (h .0), apart-memory
 -- ---- an action of x
 
 -- A crash leaves no cache with x, where none has it.
-crash-cached : (sys : Topology) (x : Location) (i : Machine) (s : State) → T (not (cached sys s x))
-    → T (not (cached sys (next sys (event (Crash i)) s) x))
-unfolding next cached crashes
-crash-cached sys x i s h =
-    none-i (sys .machines) (λ j. holds (cond (eqb j i) none (s .cache j x)))
-    (λ j l u. lose (eqb j i) (s .cache j x) (none-e (sys .machines) (λ j. holds (s .cache j x)) h j l u))
+crash-cached : (sys : Topology) (x : Location) (e : Event) (s : State) → T (not (cached sys s x))
+    → T (not (cached sys (crashed sys e s) x))
+unfolding cached
+crash-cached sys x e s h =
+    none-i (sys .machines) (λ j. holds (cond (crashes e j) none (s .cache j x)))
+    (λ j l u. lose (crashes e j) (s .cache j x) (none-e (sys .machines) (λ j. holds (s .cache j x)) h j l u))
   where
     lose : (b : Bool) (c : Option Value) → T (not (holds c)) → T (not (holds (cond b none c)))
     lose true c t = tt
     lose false c t = t
 
--- An event that is no store leaves x in memory alone, also a crash of the owner, whose memory is persistent.
+-- And it leaves x in memory alone, also if the owner crashes, whose memory is persistent.
+crash-kept : (sys : Topology) (x : Location) (m : Value) → T (sys .persistent (owner sys x))
+    → (e : Event) (s : State) → InMemory sys x m s → InMemory sys x m (crashed sys e s)
+unfolding clears
+crash-kept sys x m p e s h =
+    let k = owner sys x in
+    (crash-cached sys x e s (h .0), rw (T→true {b = sys .persistent k} p, and-false (crashes e k)) (h .1))
+
+-- So does any other event that is no store.
 event-kept : (sys : Topology) (x : Location) (m : Value) → T (sys .persistent (owner sys x))
     → (e : Event) (s : State) → T (eventAt x e) → T (not (isStore e))
     → InMemory sys x m s → InMemory sys x m (next sys (event e) s)
-unfolding next eventAt locationOf isStore crashes clears
+unfolding next eventAt locationOf isStore
 event-kept sys x m p (LStore i y v) s t n h = absurd n
 event-kept sys x m p (RStore i y v) s t n h = absurd n
 event-kept sys x m p (MStore i y v) s t n h = absurd n
@@ -107,9 +118,8 @@ event-kept sys x m p (Load i y v) s t n h =
     rw (not→false {b = cached sys s y} empty) h
 event-kept sys x m p (LFlush i y) s t n h = h
 event-kept sys x m p (RFlush i y) s t n h = h
-event-kept sys x m p (Crash i) s t n h =
-    let k = owner sys x in
-    (crash-cached sys x i s (h .0), rw (T→true {b = sys .persistent k} p, and-false (eqb k i)) (h .1))
+event-kept sys x m p (Crash i) s t n h = crash-kept sys x m p (Crash i) s h
+event-kept sys x m p (SetCrash set) s t n h = crash-kept sys x m p (SetCrash set) s h
 event-kept sys x m p (RMW form i y v w) s t n h = absurd n
 
 -- Where no cache holds x, no silent step of x is possible.

@@ -1,21 +1,26 @@
 -- Where an event is: at the one location that it names, or nowhere in particular, and then it is a crash.
-use mathlib.Core.Path.{_≡_, refl, ap, _∙_}
+use mathlib.Core.Path.{_≡_, refl, ap}
 use mathlib.Core.Logic.{_⊎_, inl, inr}
-use mathlib.Core.Bool.{Bool, not, _&&_}
+use mathlib.Core.Bool.{Bool, true, not}
 use mathlib.Core.Option.{Option, none, some}
 use lib.Dec.{T, eqb}
-use Rattle.model.specs.Cxl0.{Machine, Location, Topology, isMachine, isLocation, named}
-use Rattle.model.specs.Cxl0.{Event, LStore, RStore, MStore, Load, LFlush, RFlush, Crash, RMW, event}
-use Rattle.model.specs.OneLocation.{locationOf, machineOf, isHere, isNowhere, isHereOrNowhere}
+use Rattle.model.specs.Cxl0.{Machine, Location, MachineSet, Topology, isMachine, isLocation, named}
+use Rattle.model.specs.Cxl0.{Event, LStore, RStore, MStore, Load, LFlush, RFlush, Crash, SetCrash, RMW, event}
+use Rattle.model.specs.OneLocation.{locationOf, isHere, isNowhere, isHereOrNowhere}
 use Rattle.model.specs.OneLocation.{ownEvent, isCrash, eventAt}
-use Rattle.model.proofs.Tests.{and-l, and-r}
+use Rattle.model.proofs.Tests.{and-r}
 
 -- An event at one location, which concerns that location and no other.
 abbrev pub AtOne : Event → Type 0
 AtOne e = (y : Location) × (locationOf e ≡ some y) × ((x : Location) → eventAt x e ≡ eqb x y)
 
+-- The crash of a machine or of a set of machines.
+pub data IsCrash : Event → Type 0 where
+  single : (i : Machine) → IsCrash (Crash i)
+  several : (set : MachineSet) → IsCrash (SetCrash set)
+
 -- An event that is at no location is a crash.
-nowhere-crash : (e : Event) → T (isNowhere (locationOf e)) → (i : Machine) × (e ≡ Crash i)
+pub nowhere-crash : (e : Event) → T (isNowhere (locationOf e)) → IsCrash e
 unfolding locationOf
 nowhere-crash (LStore i y v) t = absurd t
 nowhere-crash (RStore i y v) t = absurd t
@@ -23,15 +28,16 @@ nowhere-crash (MStore i y v) t = absurd t
 nowhere-crash (Load i y v) t = absurd t
 nowhere-crash (LFlush i y) t = absurd t
 nowhere-crash (RFlush i y) t = absurd t
-nowhere-crash (Crash i) t = (i, refl)
+nowhere-crash (Crash i) t = single i
+nowhere-crash (SetCrash set) t = several set
 nowhere-crash (RMW form i y v w) t = absurd t
 
 -- The two cases of an event.
-pub located : (e : Event) → AtOne e ⊎ ((i : Machine) × (e ≡ Crash i))
+pub located : (e : Event) → AtOne e ⊎ IsCrash e
 unfolding eventAt
 located e = go (locationOf e) refl
   where
-    go : (o : Option Location) → locationOf e ≡ o → AtOne e ⊎ ((i : Machine) × (e ≡ Crash i))
+    go : (o : Option Location) → locationOf e ≡ o → AtOne e ⊎ IsCrash e
     go (some y) p = inl (y, p, λ x. ap (isHereOrNowhere x) p)
     go none p = inr (nowhere-crash e (rw p tt))
 
@@ -71,36 +77,24 @@ crash-everywhere x e = go (locationOf e)
 
 -- ---- what an event names
 
--- A machine of the system, and a location of the system or none.
-abbrev names : Topology → Machine → Option Location → Bool
-names sys i (some y) = isMachine sys i && isLocation sys y
-names sys i none = isMachine sys i
+-- A location of the system, or none.
+abbrev listed : Topology → Option Location → Bool
+listed sys (some y) = isLocation sys y
+listed sys none = true
 
-named-by : (sys : Topology) (e : Event) → named sys (event e) ≡ names sys (machineOf e) (locationOf e)
+named-listed : (sys : Topology) (e : Event) → T (named sys (event e)) → T (listed sys (locationOf e))
 unfolding named locationOf
-named-by sys (LStore i y v) = refl
-named-by sys (RStore i y v) = refl
-named-by sys (MStore i y v) = refl
-named-by sys (Load i y v) = refl
-named-by sys (LFlush i y) = refl
-named-by sys (RFlush i y) = refl
-named-by sys (Crash i) = refl
-named-by sys (RMW form i y v w) = refl
+named-listed sys (LStore i y v) t = and-r (isMachine sys i) (isLocation sys y) t
+named-listed sys (RStore i y v) t = and-r (isMachine sys i) (isLocation sys y) t
+named-listed sys (MStore i y v) t = and-r (isMachine sys i) (isLocation sys y) t
+named-listed sys (Load i y v) t = and-r (isMachine sys i) (isLocation sys y) t
+named-listed sys (LFlush i y) t = and-r (isMachine sys i) (isLocation sys y) t
+named-listed sys (RFlush i y) t = and-r (isMachine sys i) (isLocation sys y) t
+named-listed sys (Crash i) t = tt
+named-listed sys (SetCrash set) t = tt
+named-listed sys (RMW form i y v w) t = and-r (isMachine sys i) (isLocation sys y) t
 
--- An event at location y names its machine and y.
-pub named-at : (sys : Topology) (e : Event) {y : Location} → locationOf e ≡ some y
-    → named sys (event e) ≡ (isMachine sys (machineOf e) && isLocation sys y)
-named-at sys e p = named-by sys e ∙ ap (names sys (machineOf e)) p
-
--- An event of the system is by a machine of the system, at a location of the system.
-pub named-machine : (sys : Topology) (e : Event) → T (named sys (event e)) → T (isMachine sys (machineOf e))
-named-machine sys e t = go (locationOf e) (rw (named-by sys e) at t)
-  where
-    go : (o : Option Location) → T (names sys (machineOf e) o) → T (isMachine sys (machineOf e))
-    go (some y) n = and-l (isMachine sys (machineOf e)) (isLocation sys y) n
-    go none n = n
-
+-- The location of an event of the system is one of the system.
 pub named-location : (sys : Topology) (e : Event) {y : Location} → locationOf e ≡ some y
     → T (named sys (event e)) → T (isLocation sys y)
-named-location sys e {y} p t =
-    and-r (isMachine sys (machineOf e)) (isLocation sys y) (rw (named-at sys e p) at t)
+named-location sys e p t = rw p at (named-listed sys e t)

@@ -7,17 +7,18 @@ use native.Mathlib.Omega.{arith}
 use mathlib.Core.Path.{_≡_}
 use mathlib.Core.Bool.{Bool, true, false, cond, not, _&&_}
 use lib.Dec.{T, eqb, eqb-refl, eqb·suc-zero}
-use Rattle.model.specs.Cxl0.{Machine, Location, Value, Topology, isMachine, isLocation, owner, named}
-use Rattle.model.specs.Cxl0.{LStore, RStore, MStore, Load, LFlush, RFlush, Crash, RMW, Form, L, R, M}
-use Rattle.model.specs.Cxl0.{Propagate, WriteBack}
+use Rattle.model.specs.Cxl0.{Machine, Location, Value, MachineSet, Topology, isMachine, isLocation, owner, named}
+use Rattle.model.specs.Cxl0.{LStore, RStore, MStore, Load, LFlush, RFlush, Crash, SetCrash}
+use Rattle.model.specs.Cxl0.{RMW, Form, L, R, M, Propagate, WriteBack}
 use Rattle.model.specs.Cxl0.{Action, event, silent, isStore, isLoad}
-use Rattle.model.specs.Sharers.{has, insert, remove}
+use Rattle.model.specs.Sharers.{has, insert, remove, removeAll}
 use Rattle.model.specs.OneLocation.{Local, enabledAt, storedAt, loadedAt, effect, moved, startAt, siteOf}
 use Rattle.model.proofs.Tests.{and-l, and-r, T→true, not→false, ne→test}
-use Rattle.model.proofs.Sharers.{has-insert, has-remove, has-none, remove-le}
+use Rattle.model.proofs.Sharers.{has-insert, has-remove, has-remove-all, has-none}
+use Rattle.model.proofs.Sharers.{remove-le, remove-all-le}
 use Rattle.model.proofs.Expand.{machine-bounds}
 use Rattle.model.specs.Sums.{sum}
-use Rattle.model.proofs.Sums.{sum-zero, sum-at}
+use Rattle.model.proofs.Sums.{sum-zero, sum-le, sum-at}
 
 -- 1 for a test that is passed, 0 for one that is failed.
 abbrev pub one : Bool → ℕ
@@ -30,6 +31,10 @@ one-le false = omega arith
 one-and : (a b : Bool) → one (a && b) ≤ one b
 one-and true b = omega arith
 one-and false b = omega arith
+
+one-lost : (gone a b : Bool) → one ((not gone && a) && b) ≤ one (a && b)
+one-lost true a b = omega (arith, one-le (a && b))
+one-lost false a b = omega arith
 
 -- Machine i is one of 1 to n.
 abbrev Among : ℕ → Machine → Type 0
@@ -87,6 +92,14 @@ module _ (n : ℕ) (k : Machine) where
             (rw (has-remove i i c, itself) (omega arith)),
       )
 
+  -- A set that has lost members has no more of them.
+  others-lost : (c d : ℕ) (gone : Machine → Bool) → ((j : Machine) → has j d ≡ (not (gone j) && has j c))
+      → others d ≤ others c
+  unfolding others
+  others-lost c d gone lost =
+      sum-le (suc n) (λ j. one (other d j)) (λ j. one (other c j))
+      (λ j h. rw (lost j) (one-lost (gone j) (has j c) (not (eqb j k))))
+
   -- The potential at the code c; `min c 1` is 1 if the set is not empty.
   potential : ℕ → ℕ
   potential c = others c + min c 1
@@ -106,9 +119,16 @@ module _ (n : ℕ) (k : Machine) where
   after-load i (suc c) h =
       rw (eqb·suc-zero c) (omega (arith, others-insert i (suc c) h, one-le (not (eqb i k))))
 
-  after-crash : (i : Machine) (c : ℕ) → Among n i → potential (remove i c) ≤ potential c
+  after-crash : (i : Machine) (c : ℕ) → potential (remove i c) ≤ potential c
   unfolding potential
-  after-crash i c h = omega (arith, others-remove i c h, remove-le i c)
+  after-crash i c =
+      omega (arith, others-lost c (remove i c) (λ j. eqb j i) (λ j. has-remove i j c), remove-le i c)
+
+  after-set-crash : (set : MachineSet) (c : ℕ) → potential (removeAll set c) ≤ potential c
+  unfolding potential
+  after-set-crash set c =
+      let lost = others-lost c (removeAll set c) (λ j. has j set) (λ j. has-remove-all set j c) in
+      omega (arith, lost, remove-all-le set c)
 
   after-propagate : (i : Machine) (c : ℕ) → Among n k → Among n i → T (not (eqb i k) && has i c)
       → potential (moved k i c) + 1 ≤ potential c
@@ -172,7 +192,9 @@ rank-step sys x (event (Load i y v)) s o m t =
 rank-step sys x (event (LFlush i y)) s o m t = omega arith
 rank-step sys x (event (RFlush i y)) s o m t = omega arith
 rank-step sys x (event (Crash i)) s o m t =
-    omega (arith, after-crash (sys .machines) (owner sys x) i (s .code) (machine-bounds sys i m))
+    omega (arith, after-crash (sys .machines) (owner sys x) i (s .code))
+rank-step sys x (event (SetCrash set)) s o m t =
+    omega (arith, after-set-crash (sys .machines) (owner sys x) set (s .code))
 rank-step sys x (event (RMW form i y v w)) s o m t = omega (arith, rank-stored sys x y form i w (loadedAt i s) o m)
 rank-step sys x (silent (Propagate i y)) s o m t =
     let k = owner sys x in

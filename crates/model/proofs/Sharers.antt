@@ -1,13 +1,14 @@
 -- Laws of the codes of sets of machines: membership after `insert` and `remove`, the empty set, and bounds.
-use Prim.Native.Nat.{ℕ, zero, suc, _+_, _*_, _/_, _%_, _^_, _≤_, _<_}
-use native.Mathlib.Nat.{pow-suc, le-of-suc-le-suc, not-suc-le-zero}
+use Prim.Native.Nat.{ℕ, zero, suc, _+_, _-_, _*_, _/_, _%_, _^_, _≤_, _<_, min}
+use native.Mathlib.Nat.{pow-suc, le-of-suc-le-suc, not-suc-le-zero, sub-le}
 use native.Mathlib.Omega.{arith}
 use mathlib.Core.Path.{_≡_, refl, subst}
 use mathlib.Core.Logic.{_≢_}
 use mathlib.Core.Bool.{Bool, false, not, _&&_, _||_}
 use lib.Dec.{T, eqb, eqb·zero-suc, eqb·suc-zero, eqb·suc-suc, eqb→eq}
+use lib.Bits.{bitAnd, and-step, and-le-l}
 use Rattle.model.specs.Cxl0.{Machine, someMachine}
-use Rattle.model.specs.Sharers.{has, insert, remove}
+use Rattle.model.specs.Sharers.{has, insert, remove, removeAll}
 use Rattle.model.proofs.Tests.{by-test, ne-test, ne→test, same-test}
 use Rattle.model.proofs.Machines.{some-i, some-e}
 
@@ -52,6 +53,31 @@ has-remove (suc (suc i)) (suc zero) c =
 has-remove (suc (suc i)) (suc (suc j)) c =
     rw (high (remove (suc i) (c / 2)) (c % 2) (bit c), eqb·suc-suc) (has-remove (suc i) (suc j) (c / 2))
 
+-- The lowest bit of a set without those of another, and the bits above it.
+all-low : (d c : ℕ) → removeAll d c % 2 ≡ c % 2 - min (c % 2) (d % 2)
+unfolding removeAll
+all-low d c = omega (arith, and-step c d, and-le-l (c / 2) (d / 2))
+
+all-high : (d c : ℕ) → removeAll d c / 2 ≡ removeAll (d / 2) (c / 2)
+unfolding removeAll
+all-high d c = omega (arith, and-step c d, and-le-l (c / 2) (d / 2))
+
+lost-bit : (a b : ℕ) → a < 2 → b < 2 → eqb (a - min a b) 1 ≡ (not (eqb b 1) && eqb a 1)
+lost-bit zero zero h k = refl
+lost-bit zero (suc zero) h k = refl
+lost-bit (suc zero) zero h k = refl
+lost-bit (suc zero) (suc zero) h k = refl
+lost-bit zero (suc (suc b)) h k = absurd (omega arith)
+lost-bit (suc zero) (suc (suc b)) h k = absurd (omega arith)
+lost-bit (suc (suc a)) b h k = absurd (omega arith)
+
+-- Machine j is in the set without those of another, if it is in the one and not in the other.
+pub has-remove-all : (d j c : ℕ) → has j (removeAll d c) ≡ (not (has j d) && has j c)
+unfolding has
+has-remove-all d zero c = refl
+has-remove-all d (suc zero) c = rw (all-low d c) (lost-bit (c % 2) (d % 2) (bit c) (bit d))
+has-remove-all d (suc (suc j)) c = rw (all-high d c) (has-remove-all (d / 2) (suc j) (c / 2))
+
 -- No machine is in the set whose code is 0.
 pub has-none : (j : Machine) → has j 0 ≡ false
 unfolding has
@@ -82,6 +108,10 @@ unfolding remove
 remove-le zero c = omega arith
 remove-le (suc zero) c = omega arith
 remove-le (suc (suc i)) c = omega (arith, remove-le (suc i) (c / 2))
+
+pub remove-all-le : (d c : ℕ) → removeAll d c ≤ c
+unfolding removeAll
+remove-all-le d c = sub-le c (bitAnd c d)
 
 -- A member of a set of machines 1 to n is one of them.
 pub has-bound : (n i c : ℕ) → c < 2 ^ n → T (has i c) → (1 ≤ i) × (i ≤ n)
