@@ -21,6 +21,7 @@ pub mod SilentSteps
 pub mod Gaps
 pub mod SomeSilent
 pub mod SideBySide
+pub mod SetCrashes
 pub mod Decision
 pub mod Prefixes
 pub mod NamedEvents

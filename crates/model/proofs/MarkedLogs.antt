@@ -9,11 +9,11 @@ use lib.Dec.{T, T-not, leb, leb→le}
 use lib.ListN.{length, take}
 use Rattle.model.specs.Cxl0.{Topology, WellFormed, isMachine, isLocation, owner, initial}
 use Rattle.model.specs.Cxl0.{Event, crashes, clears, named, allNamed, FirstImpossible}
-use Rattle.model.specs.Sharers.{has, insert, remove}
+use Rattle.model.specs.Sharers.{has, insert, remove, removeAll}
 use Rattle.model.specs.OneLocation.{concerns, eventAt, moved, enabledAt, effect, locationOf, siteOf}
 use Rattle.model.specs.OneLocation.{possibleAt, nextAt, startAt}
 use Rattle.model.specs.Meaning.{ownersFit}
-use Rattle.model.specs.MarkedLogs.{Verdict, MarkedLog, log, three, persistent, volatile, logs}
+use Rattle.model.specs.MarkedLogs.{Verdict, MarkedLog, log, three, persistent, volatile, logs, setCrashLogs}
 use Rattle.model.proofs.Tests.{and-l, and-r}
 use Rattle.model.proofs.Owners.{owners-fit}
 use Rattle.model.proofs.SomeSilent.{someMoved, someSilent}
@@ -65,13 +65,29 @@ unfolding
     concerns eventAt locationOf enabledAt siteOf moved effect possibleAt nextAt startAt
 all-right = tt
 
--- Each marked log has a well-formed system and its verdict.
-pub marked-logs : (l : MarkedLog) → List·Memᴰ l logs
+all-right-set : T (allRight setCrashLogs)
+unfolding
+    setCrashLogs log three volatile
+    allRight right ownersFit judged decide everyBelow good someSilent someMoved
+    isMachine isLocation owner initial crashes clears named allNamed has insert remove removeAll
+    concerns eventAt locationOf enabledAt siteOf moved effect possibleAt nextAt startAt
+all-right-set = tt
+
+-- Each log of a list that passes has a well-formed system and its verdict.
+each-right : (ls : List MarkedLog) → T (allRight ls) → (l : MarkedLog) → List·Memᴰ l ls
     → WellFormed (l .system) × Verdict (l .system) (l .events) (l .verdict)
 unfolding right
-marked-logs l m =
+each-right ls t l m =
     let fit = ownersFit (l .system .machines) (l .system .homes) in
     let verdict = judged (l .system) (l .events) (l .verdict) in
-    let t = each logs all-right l m in
-    let w = owners-fit (l .system) (and-l fit verdict t) in
-    (w, judged-correct (l .system) w (l .events) (l .verdict) (and-r fit verdict t))
+    let r = each ls t l m in
+    let w = owners-fit (l .system) (and-l fit verdict r) in
+    (w, judged-correct (l .system) w (l .events) (l .verdict) (and-r fit verdict r))
+
+pub marked-logs : (l : MarkedLog) → List·Memᴰ l logs
+    → WellFormed (l .system) × Verdict (l .system) (l .events) (l .verdict)
+marked-logs = each-right logs all-right
+
+pub set-crash-logs : (l : MarkedLog) → List·Memᴰ l setCrashLogs
+    → WellFormed (l .system) × Verdict (l .system) (l .events) (l .verdict)
+set-crash-logs = each-right setCrashLogs all-right-set

@@ -138,6 +138,26 @@ member (suc n) c h z =
     let m = member n (c / 2) (half-bound n c h) above in
     (suc (m .0), omega (arith, m .1), m .2))
 
+below-pow : (n : ℕ) → n < 2 ^ n
+below-pow zero = omega arith
+below-pow (suc n) = let p : 2 ^ suc n ≡ 2 ^ n * 2 = pow-suc 2 n in omega (arith, below-pow n)
+
+above-one : (c : ℕ) (j : Machine) → T (has j (c / 2)) → T (has (suc j) c)
+unfolding has
+above-one c zero t = absurd t
+above-one c (suc j) t = t
+
+-- A set whose members are all among machines 1 to n has no bit above theirs.
+pub members-bound : (n c : ℕ) → ((j : Machine) → T (has j c) → j ≤ n) → c < 2 ^ n
+members-bound zero c f =
+    by-test (eqb c 0)
+    (λ t. omega (arith, eqb→eq c 0 t))
+    (λ t. let m = member c c (below-pow c) (ne-test c 0 t) in absurd (omega (arith, f (suc (m .0)) (m .2))))
+members-bound (suc n) c f =
+    let half = members-bound n (c / 2) (λ j t. le-of-suc-le-suc (f (suc j) (above-one c j t))) in
+    let p : 2 ^ suc n ≡ 2 ^ n * 2 = pow-suc 2 n in
+    omega (arith, half)
+
 -- Some machine holds a copy exactly where the code is not 0.
 pub some-has : (n c : ℕ) → c < 2 ^ n → someMachine n (λ j. has j c) ≡ not (eqb c 0)
 some-has n c h =

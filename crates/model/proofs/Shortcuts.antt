@@ -1,10 +1,12 @@
--- For each false shortcut of document 01, and of request W-201, that concerns the model, a list of actions that tells
--- it from CXL0: the list is a run, or is none, by computation from the definitions alone.
+-- For each false shortcut of document 01, and of requests W-201 and W-203, that concerns the model, a list of actions
+-- that tells it from CXL0: the list is a run, or is none, by computation from the definitions alone.
 use mathlib.Core.Bool.{Bool, true, false, not, _&&_}
 use mathlib.Core.List.{List, [], _∷_}
 use lib.Dec.{T}
 use Rattle.model.specs.Cxl0.{isMachine, isLocation, owner, initial, start, someMachine, everyMachine, cached}
-use Rattle.model.specs.Cxl0.{LStore, MStore, Load, LFlush, Crash, RMW, L, R, M, Propagate, WriteBack}
+use Rattle.model.specs.Cxl0.{LStore, MStore, Load, LFlush, Crash, SetCrash, RMW, L, R, M}
+use Rattle.model.specs.Cxl0.{Propagate, WriteBack}
+use Rattle.model.specs.Sharers.{has}
 use Rattle.model.specs.Cxl0.{Topology, Action, event, silent, crashes, clears, named, enabled, next}
 use Rattle.model.specs.Cxl0.{possible, runs}
 use Rattle.model.specs.MarkedLogs.{three, persistent, volatile, L0}
@@ -49,6 +51,18 @@ cases =
     ∷ case (persistent (2 ∷ []))
     (event (RMW R 1 L0 0 1) ∷ event (Crash 1) ∷ event (Load 2 L0 1) ∷ [])
     true
+    -- A set crash that lets a copy move between its machines: request W-203's log becomes allowed.
+    ∷ case (volatile (1 ∷ []))
+    (event (LStore 2 L0 5) ∷ event (SetCrash 3) ∷ event (Load 2 L0 5) ∷ [])
+    false
+    -- One that keeps the memory of an owner in the set: what was written there would outlive a volatile memory.
+    ∷ case (volatile (1 ∷ []))
+    (event (MStore 2 L0 5) ∷ event (SetCrash 3) ∷ event (Load 2 L0 5) ∷ [])
+    false
+    -- One that empties the cache of a machine outside the set: machine 3 has its copy still.
+    ∷ case (volatile (1 ∷ []))
+    (event (LStore 3 L0 5) ∷ event (SetCrash 3) ∷ event (Load 2 L0 5) ∷ [])
+    true
     ∷ []
 
 unfoldable pub as-said : Bool → Bool → Bool
@@ -63,5 +77,5 @@ told (c ∷ cs) = as-said (c .is-run) (runs (c .system) (c .actions) (start (c .
 pub shortcuts-told : T (told cases)
 unfolding
     told as-said cases case three persistent volatile isMachine isLocation owner initial start someMachine
-    everyMachine cached crashes clears named enabled next possible runs
+    everyMachine cached crashes clears named enabled next possible runs has
 shortcuts-told = tt

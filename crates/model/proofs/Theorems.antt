@@ -3,17 +3,19 @@
 use Prim.Native.Nat.{ℕ, _+_, _*_, _≤_}
 use mathlib.Core.Path.{_≡_}
 use mathlib.Core.Logic.{_≢_, _⊎_, _↔_}
+use mathlib.Core.Bool.{not}
 use mathlib.Core.List.{List, _∷_, _++_, List·Memᴰ, map}
 use mathlib.Core.Option.{some}
 use lib.Dec.{T}
 use lib.ListN.{length, take}
-use Rattle.model.specs.Cxl0.{Machine, Location, Value, Topology, WellFormed, isLocation, owner, State, start}
-use Rattle.model.specs.Cxl0.{Form, Load, RMW, Event, Action, event, allNamed, Run, HasRun, after, events, silents}
-use Rattle.model.specs.Cxl0.{count, isStore, isLoad}
+use Rattle.model.specs.Cxl0.{Machine, Location, Value, MachineSet, Topology, WellFormed, isLocation, owner}
+use Rattle.model.specs.Cxl0.{State, start, everyMachine, cached, Form, Load, RMW, SetCrash, Event, Action, event}
+use Rattle.model.specs.Cxl0.{next, allNamed, Run, HasRun, after, events, silents, count, isStore, isLoad}
 use Rattle.model.specs.Schedule.{Step, weave, schedule, inOrder}
 use Rattle.model.specs.OneLocation.{Local, startAt, runsAt, HasRunAt, Moves, Silently}
-use Rattle.model.specs.Goes.{storeOf}
-use Rattle.model.specs.MarkedLogs.{MarkedLog, Verdict, logs}
+use Rattle.model.specs.Sharers.{has}
+use Rattle.model.specs.Goes.{storeOf, Lists, crashRow}
+use Rattle.model.specs.MarkedLogs.{MarkedLog, Verdict, logs, setCrashLogs}
 use Rattle.model.proofs.CopiesAgree
 use Rattle.model.proofs.Bound
 use Rattle.model.proofs.Split
@@ -23,6 +25,7 @@ use Rattle.model.proofs.Prefixes
 use Rattle.model.proofs.Weaving
 use Rattle.model.proofs.ReadModifyWrites
 use Rattle.model.proofs.SideBySide
+use Rattle.model.proofs.SetCrashes
 use Rattle.model.proofs.MarkedLogs as marked
 
 -- 1. Copies of one location always agree in value, in every state that a run reaches.
@@ -105,7 +108,35 @@ pub rmw-has-run : (sys : Topology) → WellFormed sys → (form : Form) (i : Mac
     → HasRun sys (es ++ RMW form i x v w ∷ fs) ↔ HasRun sys (es ++ Load i x v ∷ storeOf form i x w ∷ fs)
 rmw-has-run sys wf form i x v w = SideBySide.has-run-both sys form i x v w wf
 
--- The fourteen marked logs have the verdicts that document 01 gives them.
+-- 8. A list with a set crash is a run exactly where it is one with the single crashes of the set's machines in its place,
+-- in any order, with no silent step between; and both lead to the same state.
+pub set-crash-run : (sys : Topology) (set : MachineSet) (is : List Machine) → Lists set is
+    → (before acts : List Action)
+    → Run sys (before ++ event (SetCrash set) ∷ acts) ↔ Run sys (before ++ (map event (crashRow is) ++ acts))
+set-crash-run = SetCrashes.run-set
+
+pub set-crash-after : (sys : Topology) (set : MachineSet) (is : List Machine) → Lists set is
+    → (acts : List Action) (s : State)
+    → after sys (event (SetCrash set) ∷ acts) s ≡ after sys (map event (crashRow is) ++ acts) s
+set-crash-after = SetCrashes.after-set
+
+-- So a set crash only ever takes runs away: events that have one with it have one with the row in its place. Not the
+-- other way round, since copies may move between single crashes: the request's logs, below, tell the two apart.
+pub set-crash-has-run : (sys : Topology) (set : MachineSet) (is : List Machine) → Lists set is
+    → (es fs : List Event)
+    → HasRun sys (es ++ SetCrash set ∷ fs) → HasRun sys (es ++ (crashRow is ++ fs))
+set-crash-has-run = SetCrashes.has-run-row
+
+-- A crash of all machines together leaves every cache empty.
+pub set-crash-all : (sys : Topology) (set : MachineSet) → T (everyMachine (sys .machines) (λ j. has j set))
+    → (s : State) (x : Location) → T (not (cached sys (next sys (event (SetCrash set)) s) x))
+set-crash-all = SetCrashes.all-empty
+
+-- The fourteen marked logs have the verdicts that document 01 gives them, and the two of request W-203 theirs.
 pub marked-logs : (l : MarkedLog) → List·Memᴰ l logs
     → WellFormed (l .system) × Verdict (l .system) (l .events) (l .verdict)
 marked-logs = marked.marked-logs
+
+pub set-crash-logs : (l : MarkedLog) → List·Memᴰ l setCrashLogs
+    → WellFormed (l .system) × Verdict (l .system) (l .events) (l .verdict)
+set-crash-logs = marked.set-crash-logs

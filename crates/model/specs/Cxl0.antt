@@ -1,6 +1,6 @@
 -- CXL0: what a system of machines that share memory over Compute Express Link may do, in the words of document 01,
--- "The model" (from source 000, section 3.3), with the read-modify-writes of request W-201 and the set crashes of W-203.
--- Malluvom's promises are stated over this page and `Schedule`.
+-- "The model" (from source 000, section 3.3), with the read-modify-writes of request W-201 and the set crashes of
+-- W-203. Malluvom's promises are stated over this page and `Schedule`.
 -- A test is a Bool; each event and each silent step has one clause in `enabled` and one in `next`.
 use Prim.Native.Nat.{ℕ, zero, suc, _^_, _≤_, _<_}
 use mathlib.Core.Path.{_≡_}

@@ -1,9 +1,9 @@
--- The marked logs of document 01: for each, its system, its events, and the verdict that it must have.
+-- The marked logs of document 01, and those of request W-203: for each, its system, its events, and the verdict that it must have.
 use Prim.Native.Nat.{ℕ, zero, suc}
 use mathlib.Core.Bool.{Bool, true, false}
 use mathlib.Core.List.{List, [], _∷_, map}
 use Rattle.model.specs.Cxl0.{Machine, Location, Topology, HasRun, FirstImpossible}
-use Rattle.model.specs.Cxl0.{Event, LStore, RStore, MStore, Load, LFlush, RFlush, Crash}
+use Rattle.model.specs.Cxl0.{Event, LStore, RStore, MStore, Load, LFlush, RFlush, Crash, SetCrash}
 
 -- A verdict is a number: 0 says that the events have a run, any other is that of the first impossible event.
 unfoldable pub Verdict : Topology → List Event → ℕ → Type 0
@@ -69,4 +69,12 @@ logs =
     ∷ log (volatile (2 ∷ [])) (LStore 1 L0 1 ∷ Load 2 L0 1 ∷ LFlush 2 L0 ∷ Crash 2 ∷ Load 1 L0 1 ∷ []) 5
     -- 14. L0 of 2: allowed
     ∷ log (persistent (2 ∷ [])) (LStore 1 L0 1 ∷ Crash 1 ∷ Load 2 L0 1 ∷ []) 0
+    ∷ []
+
+-- The logs of request W-203, L0 of 1 and all volatile: single crashes of 1 and 2, allowed, since the copy may move from
+-- 2 to 1 between them; and the set of both, whose bits make 3, in their place: impossible, 3.
+unfoldable pub setCrashLogs : List MarkedLog
+setCrashLogs =
+    log (volatile (1 ∷ [])) (LStore 2 L0 5 ∷ Crash 1 ∷ Crash 2 ∷ Load 2 L0 5 ∷ []) 0
+    ∷ log (volatile (1 ∷ [])) (LStore 2 L0 5 ∷ SetCrash 3 ∷ Load 2 L0 5 ∷ []) 3
     ∷ []
