@@ -5,8 +5,8 @@ use mathlib.Core.Path.{_≡_, refl, sym, ap, _∙_}
 use mathlib.Core.Bool.{Bool}
 use lib.Bits.{bitAnd, and-le-l}
 use Rattle.model.specs.Cxl0.{Machine}
-use Rattle.model.specs.Sharers.{insert, remove}
-use Rattle.model.proofs.Bits.{remove-byte}
+use Rattle.model.specs.Sharers.{insert, remove, removeAll}
+use Rattle.model.proofs.Bits.{remove-byte, remove-all-byte}
 use Rattle.entries.specs.Entries.{shortOf, entryOf}
 use Rattle.entries.specs.declared.Entry as entry
 use Rattle.entries.specs.declared.Acted as acted
@@ -33,3 +33,9 @@ pub lost-byte : (i : Machine) (c b : ℕ) → b ≡ insert i 0 % 256 → c < 256
 lost-byte i c b e h =
     let low = lt-of-le-of-lt (and-le-l c (255 - b)) h in
     sym (mod-eq-of-lt low) ∙ ap (λ (d : ℕ). d % 256) (remove-byte i c b e h)
+
+-- The byte of a set without the machines of the set d.
+pub lost-all-byte : (d c : ℕ) → c < 256 → d < 256 → bitAnd c (255 - d) ≡ removeAll d c % 256
+lost-all-byte d c h l =
+    let low = lt-of-le-of-lt (and-le-l c (255 - d)) h in
+    sym (mod-eq-of-lt low) ∙ ap (λ (b : ℕ). b % 256) (remove-all-byte d c h l)

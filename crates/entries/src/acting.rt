@@ -1,9 +1,9 @@
 // What each action makes of the entry of its location. Names that the system does not have are for the state
 // to refuse; the equations hold for them too.
 ghost use mathlib.Core.Path.{_≡_};
-ghost use mathlib.Core.Bool.{cond};
-ghost use Rattle.model.specs.Cxl0.{Crash, silent, Propagate, WriteBack};
-ghost use Rattle.model.specs.OneLocation.{clearsSite, readableAt};
+ghost use mathlib.Core.Bool.{cond, _&&_};
+ghost use Rattle.model.specs.Cxl0.{silent, Propagate, WriteBack};
+ghost use Rattle.model.specs.OneLocation.{readableAt};
 ghost use Rattle.entries.specs.Entries.{siteMeant, shortOf, maskedTo, actedOf, actedBy};
 use super::Acted;
 use super::Entry;
@@ -29,12 +29,11 @@ fn acted(enabled: bool, sharers: u8, copy: u32, memory: u32) -> Acted
 }
 
 impl Site {
-    // What a crash of machine i leaves of memory value m: the initial value, if i is the owner and its memory is
-    // volatile.
-    fn left(self, i: Machine, m: u32) -> u32
-        ensures { λ r. ⌜ r ≡ cond (clearsSite (Crash (i .0)) (siteMeant self)) (self .initial) m ⌝ }
+    // What a crash leaves of memory value m: the initial value, if the owner crashes and its memory is volatile.
+    fn left(self, crashed: bool, m: u32) -> u32
+        ensures { λ r. ⌜ r ≡ cond (crashed && self .volatile) (self .initial) m ⌝ }
     {
-        if self.owner.is(i) & self.volatile {
+        if crashed & self.volatile {
             self.initial
         } else {
             m
@@ -92,13 +91,19 @@ impl Entry {
             5 => acted(held & mine == 0, held, copy, memory),
             6 => acted(held == 0, held, copy, memory),
             // a crash
-            7 => acted(true, held & !mine, copy, site.left(e.machine, memory)),
+            7 => acted(true, held & !mine, copy, site.left(site.owner.is(e.machine), memory)),
             // L-RMW, R-RMW, M-RMW: the load of v, and at once the store
             8 => acted(self.reads(v), mine, e.written, memory),
             9 => acted(self.reads(v), bit(site.owner), e.written, memory),
             10 => acted(self.reads(v), 0, copy, e.written),
+            // a set crash, its set in place of the location
+            11 => {
+                let set = e.location.0;
+                let lost = set & bit(site.owner) != 0;
+                acted(true, held & !set, copy, site.left(lost, memory))
+            }
             0 => acted(false, held, copy, memory),
-            11..=255 => acted(false, held, copy, memory),
+            12..=255 => acted(false, held, copy, memory),
         }
     }
 

@@ -10,8 +10,9 @@ use lib.Bits.{bitAnd, bitOr, and-step, or-step, and-zero-r, or-zero-r, and-mask,
 use lib.Ieee.Fits.{eq→eqb}
 use lib.Pow.{pow-pos, pow-mono, pow-lt, pow-add}
 use Rattle.model.specs.Cxl0.{Machine}
-use Rattle.model.specs.Sharers.{has, insert, remove}
+use Rattle.model.specs.Sharers.{has, insert, remove, removeAll}
 use Rattle.model.proofs.Tests.{same-test, by-test}
+use Rattle.model.proofs.Sharers.{all-low, all-high}
 
 -- The set of one machine has one bit.
 alone-pow : (k : ℕ) → insert (suc k) 0 ≡ 2 ^ k
@@ -70,6 +71,24 @@ remove-and (suc w) (suc k) c h l =
     let o : (2 ^ suc w - 1 - 2 ^ suc k) % 2 ≡ 1 = omega arith in
     let r = remove-and w k (c / 2) (omega arith) (le-of-suc-le-suc l) in
     rw (and-step c (2 ^ suc w - 1 - 2 ^ suc k), e, o, ← r) (omega arith)
+
+kept-bit : (a b : ℕ) → a < 2 → b < 2 → a - min a b ≡ min a (1 - b)
+kept-bit a b h l = omega arith
+
+by-parts : (c : ℕ) {q r : ℕ} → c / 2 ≡ q → c % 2 ≡ r → c ≡ q * 2 + r
+by-parts c e o = omega arith
+
+-- Without the machines of the set d: among w machines, the bits that d does not have stay.
+remove-all-and : (w d c : ℕ) → c < 2 ^ w → d < 2 ^ w → removeAll d c ≡ bitAnd c (2 ^ w - 1 - d)
+unfolding removeAll
+remove-all-and zero d c h l = let z : c ≡ 0 = omega arith in rw z refl
+remove-all-and (suc w) d c h l =
+    let p : 2 ^ suc w ≡ 2 ^ w * 2 = pow-suc 2 w in
+    let e : (2 ^ suc w - 1 - d) / 2 ≡ 2 ^ w - 1 - d / 2 = omega arith in
+    let o : (2 ^ suc w - 1 - d) % 2 ≡ 1 - d % 2 = omega arith in
+    let r = remove-all-and w (d / 2) (c / 2) (omega arith) (omega arith) in
+    rw (and-step c (2 ^ suc w - 1 - d), e, o, ← r) 
+    (by-parts (removeAll d c) (all-high d c) (all-low d c ∙ kept-bit (c % 2) (d % 2) (omega arith) (omega arith)))
 
 -- A machine above those of the set is not in it.
 remove-above : (k c : ℕ) → c < 2 ^ k → remove (suc k) c ≡ c
@@ -133,6 +152,9 @@ remove-byte (suc k) c b e h =
     let l = nltb→le k 8 t in
     rw (e, alone-pow k, high-bit k l, and-mask c 8, mod-eq-of-lt h)
     (sym (remove-above k c (lt-of-lt-of-le h (pow-mono l)))))
+
+pub remove-all-byte : (d c : ℕ) → c < 256 → d < 256 → bitAnd c (255 - d) ≡ removeAll d c
+remove-all-byte d c h l = sym (remove-all-and 8 d c h l)
 
 -- The machines 1 to n of a byte.
 

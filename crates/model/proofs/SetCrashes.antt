@@ -1,5 +1,5 @@
--- A set crash is the row of its single crashes, in any order, with nothing between them; copies that move between single
--- crashes are what it rules out. And a crash of all machines leaves every cache empty.
+-- A set crash is the row of its single crashes, in any order, with nothing between them; copies that move between
+-- single crashes are what it rules out. And a crash of all machines leaves every cache empty.
 use Prim.Native.Nat.{ℕ, _^_, _≤_}
 use mathlib.Core.Path.{_≡_, refl, sym, ap, _∙_, subst}
 use mathlib.Core.Logic.{_↔_, ⊎-elim}
@@ -95,11 +95,11 @@ module _ (sys : Topology) where
     same-state s =
         let k : Location → Machine = owner sys in
         let caches : (j : Machine) (y : Location)
-            → cond (has j set) none (s .cache j y) ≡ after sys (row is) s .cache j y
+        → cond (has j set) none (s .cache j y) ≡ after sys (row is) s .cache j y
         = λ j y. ap (λ b. cond b none (s .cache j y)) (lists j) ∙ sym (row-cache is s j y) in
         let memories : (y : Location)
-            → cond (has (k y) set && not (sys .persistent (k y))) (initial sys y) (s .memory y)
-            ≡ after sys (row is) s .memory y
+        → cond (has (k y) set && not (sys .persistent (k y))) (initial sys y) (s .memory y)
+        ≡ after sys (row is) s .memory y
         = λ y. ap (λ b. cond (b && not (sys .persistent (k y))) (initial sys y) (s .memory y)) (lists (k y))
         ∙ sym (row-memory is s y) in
         λ t. record { cache = λ j y. caches j y t; memory = λ y. memories y t }
@@ -128,8 +128,13 @@ module _ (sys : Topology) where
         → runs sys (event (SetCrash set) ∷ acts) s ≡ runs sys (row is ++ acts) s
     unfolding runs possible enabled
     runs-set acts s =
-        rw (runs-append sys (row is) acts s, row-runs is s, and-true (named sys (event (SetCrash set))), same-names,
-        same-state s)
+        rw (
+          runs-append sys (row is) acts s,
+          row-runs is s,
+          and-true (named sys (event (SetCrash set))),
+          same-names,
+          same-state s,
+        )
 
     -- A list with a set crash is a run exactly where it is one with the row in its place, and no silent step between.
     pub run-set : (before acts : List Action)

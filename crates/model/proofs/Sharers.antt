@@ -54,11 +54,11 @@ has-remove (suc (suc i)) (suc (suc j)) c =
     rw (high (remove (suc i) (c / 2)) (c % 2) (bit c), eqb·suc-suc) (has-remove (suc i) (suc j) (c / 2))
 
 -- The lowest bit of a set without those of another, and the bits above it.
-all-low : (d c : ℕ) → removeAll d c % 2 ≡ c % 2 - min (c % 2) (d % 2)
+pub all-low : (d c : ℕ) → removeAll d c % 2 ≡ c % 2 - min (c % 2) (d % 2)
 unfolding removeAll
 all-low d c = omega (arith, and-step c d, and-le-l (c / 2) (d / 2))
 
-all-high : (d c : ℕ) → removeAll d c / 2 ≡ removeAll (d / 2) (c / 2)
+pub all-high : (d c : ℕ) → removeAll d c / 2 ≡ removeAll (d / 2) (c / 2)
 unfolding removeAll
 all-high d c = omega (arith, and-step c d, and-le-l (c / 2) (d / 2))
 

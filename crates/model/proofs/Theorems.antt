@@ -108,8 +108,8 @@ pub rmw-has-run : (sys : Topology) → WellFormed sys → (form : Form) (i : Mac
     → HasRun sys (es ++ RMW form i x v w ∷ fs) ↔ HasRun sys (es ++ Load i x v ∷ storeOf form i x w ∷ fs)
 rmw-has-run sys wf form i x v w = SideBySide.has-run-both sys form i x v w wf
 
--- 8. A list with a set crash is a run exactly where it is one with the single crashes of the set's machines in its place,
--- in any order, with no silent step between; and both lead to the same state.
+-- 8. A list with a set crash is a run exactly where it is one with the single crashes of the set's machines in its
+-- place, in any order, with no silent step between; and both lead to the same state.
 pub set-crash-run : (sys : Topology) (set : MachineSet) (is : List Machine) → Lists set is
     → (before acts : List Action)
     → Run sys (before ++ event (SetCrash set) ∷ acts) ↔ Run sys (before ++ (map event (crashRow is) ++ acts))

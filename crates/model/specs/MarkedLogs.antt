@@ -1,4 +1,5 @@
--- The marked logs of document 01, and those of request W-203: for each, its system, its events, and the verdict that it must have.
+-- The marked logs of document 01, and those of request W-203: for each, its system, its events, and the verdict that it
+-- must have.
 use Prim.Native.Nat.{ℕ, zero, suc}
 use mathlib.Core.Bool.{Bool, true, false}
 use mathlib.Core.List.{List, [], _∷_, map}

@@ -1,20 +1,31 @@
 -- `act` meets its contract: each operation number is that of its event, and any other is refused.
-use Prim.Native.Nat.{_<_}
+use Prim.Native.Nat.{ℕ, _<_}
 use native.Mathlib.Omega.{arith}
-use mathlib.Core.Path.{refl, _∙_}
+use mathlib.Core.Path.{_≡_, refl, ap, _∙_}
+use mathlib.Core.Bool.{Bool, cond, _&&_}
 use borrow.Author.Tests.{eq-eqb, ne-eqb}
+use Rattle.model.specs.Cxl0.{crashes}
 use Rattle.model.specs.Operations.{isOperation, eventOf}
 use Rattle.model.specs.OneLocation.{enabledAt, effect}
 use Rattle.model.proofs.Tests.{nothing}
-use Rattle.model.proofs.Bits.{free-byte, insert-byte}
+use Rattle.model.proofs.Bits.{free-byte, has-byte, insert-byte}
 use Rattle.model.proofs.Operations.{no-operation}
 use Rattle.entries.specs.Entries.{shortOf, entryOf, actedOf, actedBy}
-use Rattle.entries.proofs.Effects.{same-entry, same-acted, entry-same, lost-byte}
+use Rattle.entries.specs.declared.Site as site
+use Rattle.entries.proofs.Effects.{same-entry, same-acted, entry-same, lost-byte, lost-all-byte}
 use Rattle.entries.proofs.Entry.act.Statement.{statement}
 use Rattle.entries.proofs.Entry.act.Tie as tie
 
 byte : (c : tie.Start) → c .args .self .sharers < 256
 byte c = omega arith
+
+set-byte : (c : tie.Start) → c .args .e .location .0 < 256
+set-byte c = omega arith
+
+-- What is left of memory depends on whether the owner crashes.
+cleared : (s : site.Site) (m : ℕ) {b d : Bool} → b ≡ d
+    → cond (b && s .volatile) (s .initial) m ≡ cond (d && s .volatile) (s .initial) m
+cleared s m e = ap (λ b. cond (b && s .volatile) (s .initial) m) e
 
 returns : tie.Need-returns
 unfolding isOperation eventOf enabledAt effect shortOf entryOf actedOf actedBy
@@ -65,13 +76,14 @@ returns-7 c =
     rw (c .before .match .keys6) (c .acted7 .ensures ∙ same-acted refl (entry-same (start .args .self) (byte start)))
 
 returns-8 : tie.Need-returns-8
-unfolding isOperation eventOf enabledAt effect shortOf entryOf actedOf actedBy
+unfolding isOperation eventOf enabledAt effect shortOf entryOf actedOf actedBy crashes
 returns-8 c =
-    let mine = c .before .before .before in
+    let arm = c .before .before .before in
+    let mine = arm .before in
     let a = mine .before .args in
     let lost = lost-byte (a .e .machine .0) (a .self .sharers) _ (mine .bit .ensures) (byte (mine .before)) in
-    rw (c .before .before .match .keys7)
-    (c .acted8 .ensures ∙ same-acted refl (same-entry lost (c .before .left .ensures)))
+    let left = c .before .left .ensures ∙ cleared (a .site) (a .self .memory) (c .before .before .is .ensures) in
+    rw (arm .match .keys7) (c .acted8 .ensures ∙ same-acted refl (same-entry lost left))
 
 returns-9 : tie.Need-returns-9
 unfolding isOperation eventOf enabledAt effect shortOf entryOf actedOf actedBy
@@ -94,19 +106,36 @@ returns-11 c =
     rw (c .before .before .match .keys10) (c .acted11 .ensures ∙ same-acted (c .before .reads3 .ensures) refl)
 
 returns-12 : tie.Need-returns-12
-unfolding isOperation actedBy
+unfolding isOperation eventOf enabledAt effect shortOf entryOf actedOf actedBy crashes
 returns-12 c =
-    rw (c .before .match .keys11) (c .acted12 .ensures)
+    let owners = c .before .before in
+    let arm = owners .before in
+    let start = arm .before .before in
+    let a = start .args in
+    let set = a .e .location .0 in
+    let lost = lost-all-byte set (a .self .sharers) (byte start) (set-byte start) in
+    let member = has-byte (a .site .owner .0) set _ (owners .bit4 .ensures) (set-byte start) in
+    let left = c .before .left2 .ensures ∙ cleared (a .site) (a .self .memory) member in
+    rw (arm .match .keys11) (c .acted12 .ensures ∙ same-acted refl (same-entry lost left))
 
 returns-13 : tie.Need-returns-13
-unfolding actedBy
+unfolding isOperation actedBy
 returns-13 c =
-    rw (no-operation (c .before .match .rest)) (c .acted13 .ensures)
+    rw (c .before .match .keys12) (c .acted13 .ensures)
+
+returns-14 : tie.Need-returns-14
+unfolding actedBy
+returns-14 c =
+    rw (no-operation (c .before .match .rest)) (c .acted14 .ensures)
 
 pub act-spec : {M : Type 1} → statement M
 act-spec =
     tie.close
     (tie.spec
+    nothing
+    nothing
+    nothing
+    nothing
     nothing
     nothing
     nothing
@@ -139,4 +168,5 @@ act-spec =
     returns-10
     returns-11
     returns-12
-    returns-13)
+    returns-13
+    returns-14)
