@@ -4,8 +4,9 @@ use mathlib.Core.Logic.{_⊎_, inl, inr}
 use mathlib.Core.Bool.{Bool, true, not}
 use mathlib.Core.Option.{Option, none, some}
 use lib.Dec.{T, eqb}
-use Rattle.model.specs.Cxl0.{Machine, Location, MachineSet, Topology, isMachine, isLocation, named}
-use Rattle.model.specs.Cxl0.{Event, LStore, RStore, MStore, Load, LFlush, RFlush, Crash, SetCrash, RMW, event}
+use Rattle.model.specs.Cxl0.{Machine, Location, MachineSet, Topology, State, isMachine, isLocation, named}
+use Rattle.model.specs.Cxl0.{Event, LStore, RStore, MStore, Load, LFlush, RFlush, Crash, SetCrash, RMW}
+use Rattle.model.specs.Cxl0.{event, enabled}
 use Rattle.model.specs.OneLocation.{locationOf, isHere, isNowhere, isHereOrNowhere}
 use Rattle.model.specs.OneLocation.{ownEvent, isCrash, eventAt}
 use Rattle.model.proofs.Tests.{and-r}
@@ -31,6 +32,11 @@ nowhere-crash (RFlush i y) t = absurd t
 nowhere-crash (Crash i) t = single i
 nowhere-crash (SetCrash set) t = several set
 nowhere-crash (RMW form i y v w) t = absurd t
+
+pub crash-nowhere : {e : Event} → IsCrash e → T (isCrash e)
+unfolding locationOf isCrash
+crash-nowhere (single i) = tt
+crash-nowhere (several set) = tt
 
 -- The two cases of an event.
 pub located : (e : Event) → AtOne e ⊎ IsCrash e
@@ -74,6 +80,12 @@ crash-everywhere x e = go (locationOf e)
     go : (o : Option Location) → T (isNowhere o) → T (isHereOrNowhere x o)
     go (some y) t = absurd t
     go none t = tt
+
+-- It is possible in every state.
+pub crash-enabled : (sys : Topology) {e : Event} (s : State) → IsCrash e → T (enabled sys (event e) s)
+unfolding enabled
+crash-enabled sys s (single i) = tt
+crash-enabled sys s (several set) = tt
 
 -- ---- what an event names
 

@@ -20,7 +20,7 @@ use Rattle.model.specs.OneLocation.{nextAt, startAt, runsAt, ownSteps, o
 use Rattle.model.proofs.Tests.{by-test, T→true, and-i, and-l, and-r, ne-test}
 use Rattle.model.proofs.Sharers.{has-bound}
 use Rattle.model.proofs.Expand.{InRange, branch, enabled-expand, next-expand, nextAt-bound}
-use Rattle.model.proofs.Locations.{IsCrash, single, several, located, named-location}
+use Rattle.model.proofs.Locations.{located, crash-enabled, named-location}
 use Rattle.model.proofs.Expand.{next-inRange, runs-first, start-expand, start-inRange}
 use Rattle.model.proofs.Merge.{merge, swap, events-merge, each, and-map, each-merge}
 use Rattle.model.proofs.Merge.{elsewhere, events-elsewhere, own-elsewhere, skip, runs-merge}
@@ -62,11 +62,6 @@ apart sys w (a ∷ acts) f r t =
     )
 
 -- An action of the system is enabled, if it is so where it concerns a location of the system.
-crash-enabled : (sys : Topology) {e : Event} (s : State) → IsCrash e → T (enabled sys (event e) s)
-unfolding enabled
-crash-enabled sys s (single i) = tt
-crash-enabled sys s (several set) = tt
-
 enabled-named : (sys : Topology) (a : Action) (s : State) → T (named sys a)
     → ((x : Location) → T (isLocation sys x) → T (concerns x a) → T (enabled sys a s)) → T (enabled sys a s)
 unfolding named enabled concerns silentAt

@@ -2,7 +2,7 @@
 ghost use mathlib.Core.Path.{_≡_};
 ghost use mathlib.Core.Bool.{_&&_};
 ghost use Prim.Native.Nat.{_≤_};
-ghost use Rattle.model.specs.Cxl0.{isMachine, isLocation, owner, initial};
+ghost use Rattle.model.specs.Cxl0.{isMachine, isLocation, owner, initial, named, event, SetCrash};
 ghost use Rattle.model.specs.Meaning.{topologyOf, ownersFit, withinLimits};
 use super::LOCATIONS;
 use super::Location;
@@ -10,6 +10,7 @@ use super::MACHINES;
 use super::Machine;
 use super::Topology;
 use super::codes::bit;
+use super::codes::up_to;
 
 impl Topology {
     // Each location is owned by one of the machines.
@@ -46,6 +47,13 @@ impl Topology {
         let k = i.0;
         let n = self.machines;
         (1 <= k) & (k <= n)
+    }
+
+    // No machine above the last one is in the set, so that all of it may crash.
+    pub fn are_machines(self, set: u8) -> bool
+        ensures { λ r. ⌜ r ≡ named (topologyOf self) (event (SetCrash set)) ⌝ }
+    {
+        up_to(self.machines, set) == set
     }
 
     pub fn is_location(self, x: Location) -> bool
