@@ -10,11 +10,10 @@ use borrow.Author.Tests.{ne-eqb}
 use lib.Dec.{T, eqb, ltb, ltb→lt, nltb→le}
 use lib.ListN.{length, getD, List·getD-eq-default}
 use lib.Seq.{ext-getD}
-use Rattle.model.specs.Cxl0.{Machine, Location, isMachine, isLocation, initial, clears}
-use Rattle.model.specs.Cxl0.{Crash, Propagate, WriteBack}
+use Rattle.model.specs.Cxl0.{Location, isMachine, isLocation, initial, clears}
+use Rattle.model.specs.Cxl0.{Event, Crash, SetCrash, Propagate, WriteBack}
 use Rattle.model.specs.Cxl0.{Action, event, silent, named, enabled, possible, next}
-use Rattle.model.specs.Sharers.{remove}
-use Rattle.model.specs.OneLocation.{Local, expand, concerns, silentAt, eventAt, locationOf, siteOf, effect, nextAt}
+use Rattle.model.specs.OneLocation.{Local, expand, concerns, silentAt, eventAt, locationOf, siteOf, crashedAt, effect, nextAt}
 use Rattle.model.specs.Meaning.{topologyOf, withinLimits, attempt}
 use Rattle.model.specs.declared.Topology as topology
 use Rattle.entries.specs.Entries.{shortOf, maskedTo, emptyEntry}
@@ -24,8 +23,8 @@ use Rattle.states.specs.States.{nextEntry, entriesAfter, stateAfter, ans
 use Rattle.states.specs.declared.State as state
 use Rattle.states.specs.declared.Stepped as stepped
 use Rattle.model.proofs.Tests.{and-i, and-l, and-r, by-test, T→true, not→false}
-use Rattle.model.proofs.Sharers.{remove-le}
-use Rattle.model.proofs.Locations.{located, named-location}
+use Rattle.model.proofs.Sharers.{remove-le, remove-all-le}
+use Rattle.model.proofs.Locations.{IsCrash, single, several, located, crash-nowhere, crash-everywhere, named-location}
 use Rattle.model.proofs.Limits.{listed-below, within}
 use Rattle.model.proofs.Expand.{InRange, next-expand}
 use Rattle.states.proofs.Effects.{local-range, admits, stands}
@@ -97,13 +96,17 @@ module _ (t : topology.Topology) (y : Location) (none : T (isLocation (topologyO
   same false n = refl
 
   -- A crash finds nothing to lose.
-  nothing-lost : (i : Machine) → effect (siteOf (topologyOf t) y) (event (Crash i)) empty ≡ empty
-  unfolding localOf shortOf maskedTo effect siteOf clears initial
-  nothing-lost i =
+  lost-none : (e : Event) (c : ℕ) → c ≤ 0 % 2 ^ t .machines → crashedAt (siteOf (topologyOf t) y) e c empty ≡ empty
+  unfolding localOf shortOf maskedTo siteOf clears initial
+  lost-none e c less =
       let z = zero-mod (2 ^ t .machines) in
-      let r = remove-le i (0 % 2 ^ t .machines) in
-      let k : remove i (0 % 2 ^ t .machines) ≡ 0 % 2 ^ t .machines = omega arith in
-      λ j. record { code = k j; copy = 0; memory = same (clears (topologyOf t) (Crash i) y) 0 j }
+      let k : c ≡ 0 % 2 ^ t .machines = omega arith in
+      λ j. record { code = k j; copy = 0; memory = same (clears (topologyOf t) e y) 0 j }
+
+  nothing-lost : {e : Event} → IsCrash e → effect (siteOf (topologyOf t) y) (event e) empty ≡ empty
+  unfolding localOf shortOf maskedTo effect
+  nothing-lost (single i) = lost-none (Crash i) _ (remove-le i (0 % 2 ^ t .machines))
+  nothing-lost (several set) = lost-none (SetCrash set) _ (remove-all-le set (0 % 2 ^ t .machines))
 
   -- So no action of the system changes an empty entry there.
   idle : (a : Action) → T (named (topologyOf t) a) → nextAt (topologyOf t) y a empty ≡ empty
@@ -111,7 +114,7 @@ module _ (t : topology.Topology) (y : Location) (none : T (isLocation (topologyO
   idle (event e) n =
       ⊎-elim
       (λ at. rw (at .2 y) (elsewhere (at .0) (named-location (topologyOf t) e (at .1) n) _))
-      (λ crash. rw (crash .1) (nothing-lost (crash .0)))
+      (λ crash. rw (T→true {b = eventAt y e} (crash-everywhere y e (crash-nowhere crash))) (nothing-lost crash))
       (located e)
   idle (silent (Propagate i x)) n =
       elsewhere x (and-r (isMachine (topologyOf t) i) (isLocation (topologyOf t) x) n) _

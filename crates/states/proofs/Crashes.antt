@@ -10,8 +10,7 @@ use lib.Dec.{T, eqb, ltb, eqb→eq, ltb→lt, lt→ltb}
 use lib.ListN.{length, set}
 use lib.Seq.{getD-set-same, getD-set-other}
 use Rattle.model.specs.Cxl0
-use Rattle.model.specs.Cxl0.{Machine, Location, State, isMachine, Event, Crash}
-use Rattle.model.specs.Cxl0.{named, enabled, possible}
+use Rattle.model.specs.Cxl0.{Location, State, Event, named, enabled, possible}
 use Rattle.model.specs.OneLocation.{isCrash, eventAt, concerns, siteOf}
 use Rattle.model.specs.Operations.{isOperation}
 use Rattle.model.specs.Meaning.{topologyOf, withinLimits, meant}
@@ -23,7 +22,7 @@ use Rattle.entries.specs.declared.Entry as entry
 use Rattle.entries.specs.declared.Acted as acted
 use Rattle.states.specs.declared.State as state
 use Rattle.model.proofs.Tests.{by-test, same-test, ne-test, T→true}
-use Rattle.model.proofs.Locations.{crash-everywhere}
+use Rattle.model.proofs.Locations.{nowhere-crash, crash-everywhere, crash-enabled}
 use Rattle.states.proofs.After.{all-after}
 
 before-next : (y at : ℕ) → y ≢ at → ltb y (at + 1) ≡ ltb y at
@@ -72,9 +71,12 @@ unfolding actedBy actedOf entryAfter localOf
 entry-made t e x held is made =
     ap (λ (m : acted.Acted). m .entry) (rw (T→true {b = isOperation (e .operation)} is) at made)
 
--- A machine of the system can crash in any state.
-pub can : (t : topology.Topology) (i : Machine) (s : State)
-    → (withinLimits t && isMachine (topologyOf t) i)
-    ≡ (withinLimits t && possible (topologyOf t) (Cxl0.event (Crash i)) s)
-unfolding possible named enabled
-can t i s = ap (λ (b : Bool). withinLimits t && b) (sym (and-true (isMachine (topologyOf t) i)))
+-- Machines of the system can crash in any state.
+pub can : (t : topology.Topology) (e : Event) (s : State) → T (isCrash e)
+    → (withinLimits t && named (topologyOf t) (Cxl0.event e))
+    ≡ (withinLimits t && possible (topologyOf t) (Cxl0.event e) s)
+unfolding possible isCrash
+can t e s crash =
+    let always = crash-enabled (topologyOf t) s (nowhere-crash e crash) in
+    rw (T→true {b = enabled (topologyOf t) (Cxl0.event e) s} always)
+    (ap (λ (b : Bool). withinLimits t && b) (sym (and-true (named (topologyOf t) (Cxl0.event e)))))

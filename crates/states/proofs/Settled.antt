@@ -19,8 +19,7 @@ use Rattle.states.specs.States.{entryAt, localOf, stateOf, entryAfter, s
 use Rattle.states.specs.declared.State as state
 use Rattle.states.specs.declared.Stepped as stepped
 use Rattle.model.proofs.Tests.{by-test, T→true, true→T, not→false, ne-test}
-use Rattle.model.proofs.Operations.{not-crash, at-location, machine-of}
-use Rattle.model.proofs.Locations.{named-at}
+use Rattle.model.proofs.Operations.{not-crash, at-location, named-at-location}
 use Rattle.model.proofs.Expand.{enabled-expand}
 use Rattle.states.proofs.Effects.{asked, admits}
 use Rattle.states.proofs.After.{forms, in-range, all-after, Right, answered}
@@ -66,7 +65,7 @@ module _ (t : topology.Topology) (a : Action) (s : state.State) (x : Location)
 
 -- An event by its number, of one location: so it is if the number is an operation's, and else nothing changes.
 pub applied : (t : topology.Topology) (e : event.Event) (s : state.State) → length (s .entries) ≡ 32
-    → e .operation ≢ 7
+    → e .operation ≢ 7 → e .operation ≢ 11
     → {m : acted.Acted}
     → m ≡ actedBy (siteOf (topologyOf t) (e .location .0)) e (maskedTo (t .machines) (entryAt s (e .location .0)))
     → {b : Bool}
@@ -74,15 +73,16 @@ pub applied : (t : topology.Topology) (e : event.Event) (s : state.State) → le
     → {r : stepped.Stepped} → r ≡ settle b m (e .location .0) s
     → (outcomeOf t r ≡ attemptEvent t e (stateOf t s)) × ((r .possible ≡ false → r .state ≡ s) × (r ≡ appliedOf t e s))
 unfolding actedBy attemptEvent appliedOf
-applied t e s room n {m} g {b} f {r} k = go (isOperation (e .operation)) refl
+applied t e s room n₇ n₁₁ {m} g {b} f {r} k = go (isOperation (e .operation)) refl
   where
     go : (o : Bool) → isOperation (e .operation) ≡ o
         → (outcomeOf t r ≡ attemptEvent t e (stateOf t s))
         × ((r .possible ≡ false → r .state ≡ s) × (r ≡ appliedOf t e s))
     go true is =
         let x = e .location .0 in
-        let here = at-location e (not-crash (true→T is) n) in
-        let names = rw (machine-of e) at (named-at (topologyOf t) (meant e) here) in
+        let at = not-crash (true→T is) n₇ n₁₁ in
+        let here = at-location e at in
+        let names = named-at-location e (topologyOf t) at in
         rw is
         (settled t (Cxl0.event (meant e)) s x (λ y. unfold concerns eventAt in ap (isHereOrNowhere y) here) room
         (rw is at g)

@@ -1,12 +1,12 @@
 // The steps of a whole system, one method for each event and each silent step.
 ghost use mathlib.Core.Path.{_≡_};
-ghost use mathlib.Core.Bool.{false};
+ghost use mathlib.Core.Bool.{false, _&&_};
 ghost use lib.Dec.{T};
-ghost use Rattle.model.specs.Cxl0.{start, event, LStore, RStore, MStore, Load, LFlush, RFlush, Crash, RMW, L, R, M};
-ghost use Rattle.model.specs.Cxl0.{silent, Propagate, WriteBack};
+ghost use Rattle.model.specs.Cxl0.{start, event, LStore, RStore, MStore, Load, LFlush, RFlush, Crash, SetCrash};
+ghost use Rattle.model.specs.Cxl0.{RMW, L, R, M, silent, Propagate, WriteBack, named};
 ghost use Rattle.model.specs.OneLocation.{isCrash};
 ghost use Rattle.model.specs.Operations.{isOperation};
-ghost use Rattle.model.specs.Meaning.{topologyOf, attempt, meant, attemptEvent};
+ghost use Rattle.model.specs.Meaning.{topologyOf, withinLimits, attempt, meant, attemptEvent};
 ghost use Rattle.entries.specs.Entries.{maskedTo};
 ghost use Rattle.states.specs.States.{entryAt, stateOf, outcomeOf, settle};
 ghost use Rattle.states.specs.States.{startState, stateAfter, steppedOf, appliedOf};
@@ -103,16 +103,18 @@ impl State {
         self
     }
 
-    // i's cache is emptied; if i's memory is volatile, the locations that i owns become 0 in memory.
-    pub fn crash(self, t: Topology, i: Machine) -> Stepped
-        ensures { λ r. ⌜ outcomeOf t r ≡ attempt t (event (Crash (i .0))) (stateOf t self) ⌝ }
+    // The answer to a crash, which is possible if the topology admits it.
+    fn crash_if(self, t: Topology, admitted: bool, e: Event) -> Stepped
+        requires { ⌜ T (isOperation (e .operation)) × T (isCrash (meant e)) ⌝ }
+        requires { ⌜ admitted ≡ (withinLimits t && named (topologyOf t) (event (meant e))) ⌝ }
+        ensures { λ r. ⌜ outcomeOf t r ≡ attempt t (event (meant e)) (stateOf t self) ⌝ }
         ensures kept { λ r. ⌜ (r .possible ≡ false → r .state ≡ self) ⌝ }
-        ensures whole { λ r. ⌜ r ≡ steppedOf t (event (Crash (i .0))) self ⌝ }
+        ensures whole { λ r. ⌜ r ≡ steppedOf t (event (meant e)) self ⌝ }
     {
-        if t.within_limits() & t.is_machine(i) {
+        if admitted {
             Stepped {
                 possible: true,
-                state: self.crashed(t, numbered(7, i, Location(0), 0, 0)),
+                state: self.crashed(t, e),
             }
         } else {
             Stepped {
@@ -120,6 +122,26 @@ impl State {
                 state: self,
             }
         }
+    }
+
+    // i's cache is emptied; if i's memory is volatile, the locations that i owns become 0 in memory.
+    pub fn crash(self, t: Topology, i: Machine) -> Stepped
+        ensures { λ r. ⌜ outcomeOf t r ≡ attempt t (event (Crash (i .0))) (stateOf t self) ⌝ }
+        ensures kept { λ r. ⌜ (r .possible ≡ false → r .state ≡ self) ⌝ }
+        ensures whole { λ r. ⌜ r ≡ steppedOf t (event (Crash (i .0))) self ⌝ }
+    {
+        let admitted = t.within_limits() & t.is_machine(i);
+        self.crash_if(t, admitted, numbered(7, i, Location(0), 0, 0))
+    }
+
+    // All machines of the set crash in one step: bit i - 1 is set if machine i does.
+    pub fn set_crash(self, t: Topology, set: u8) -> Stepped
+        ensures { λ r. ⌜ outcomeOf t r ≡ attempt t (event (SetCrash set)) (stateOf t self) ⌝ }
+        ensures kept { λ r. ⌜ (r .possible ≡ false → r .state ≡ self) ⌝ }
+        ensures whole { λ r. ⌜ r ≡ steppedOf t (event (SetCrash set)) self ⌝ }
+    {
+        let admitted = t.within_limits() & t.are_machines(set);
+        self.crash_if(t, admitted, numbered(11, Machine(0), Location(set), 0, 0))
     }
 
     // The step of a log's event, by its operation number.
@@ -131,6 +153,9 @@ impl State {
         let x = e.location;
         if e.operation == 7 {
             return self.crash(t, e.machine);
+        }
+        if e.operation == 11 {
+            return self.set_crash(t, x.0);
         }
         let made = self.entry(t, x).act(Site::of(t, x), e);
         self.settled(t.names(e.machine, x), made, x)
