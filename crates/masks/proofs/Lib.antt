@@ -3,3 +3,4 @@ pub mod Constants
 pub mod Codes
 pub mod Shifts
 pub mod OnePass
+pub mod Losses

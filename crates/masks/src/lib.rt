@@ -6,11 +6,11 @@
 // to 6, a code is below 64, and `lowest` is given a mask that is not 0.
 use model::Machine;
 ghost use mathlib.Core.Path.{_≡_};
-ghost use mathlib.Core.Bool.{true, not};
+ghost use mathlib.Core.Bool.{true, cond, not};
 ghost use mathlib.Core.Logic.{_↔_, _≢_};
 ghost use lib.Dec.{T};
 ghost use Prim.Native.Nat.{ℕ, _<_};
-ghost use Rattle.model.specs.Sharers.{has, insert, remove};
+ghost use Rattle.model.specs.Sharers.{has, insert, remove, removeAll};
 ghost use Rattle.masks.specs.Sets.{In, everyCode, Exactly, Least, Leads, OneToSix};
 
 // Code c is in the set.
@@ -66,6 +66,14 @@ pub fn alone(i: Machine) -> u8
     1 << (i.0 - 1)
 }
 
+// Machine i is in the set of code c.
+pub fn holds(c: u8, i: Machine) -> bool
+    requires { ⌜ OneToSix (i .0) ⌝ }
+    ensures { λ r. ⌜ r ≡ has (i .0) c ⌝ }
+{
+    c & alone(i) != 0
+}
+
 // The codes that have machine i.
 pub fn holding(i: Machine) -> u64
     requires { ⌜ OneToSix (i .0) ⌝ }
@@ -114,6 +122,26 @@ pub fn losing(m: u64, i: Machine) -> u64
     let without = lacking(m, i);
     let with = giving_up(m, i);
     without | with
+}
+
+// So it is where the test holds, else the codes of the set.
+fn losing_if(m: u64, yes: bool, i: Machine) -> u64
+    requires { ⌜ OneToSix (i .0) ⌝ }
+    ensures { λ r. ⌜ Exactly r (λ t. In (cond yes (remove (i .0) t) t) m) ⌝ }
+{
+    if yes { losing(m, i) } else { m }
+}
+
+// The codes that are in the set once they lose those machines of the set of code d that they have.
+pub fn losing_all(m: u64, d: u8) -> u64
+    ensures { λ r. ⌜ Exactly r (λ t. In (removeAll d t) m) ⌝ }
+{
+    let mut r = m;
+    for n in 1..7u8 {
+        let i = Machine(n);
+        r = losing_if(r, holds(d, i), i);
+    }
+    r
 }
 
 // The codes that are in the set once they gain machine i, if they lack it.
