@@ -8,19 +8,19 @@ use mathlib.Core.Bool.{Bool, true, false, cond, not}
 use mathlib.Core.List.{List, _∷_}
 use lib.Dec.{T, eqb}
 use Rattle.model.specs.Cxl0.{Machine, Location, Value, Topology, owner, initial, event}
-use Rattle.model.specs.Cxl0.{Event, LStore, RStore, MStore, Load, LFlush, RFlush, Crash, RMW}
+use Rattle.model.specs.Cxl0.{Event, LStore, RStore, MStore, Load, LFlush, RFlush, Crash, SetCrash, RMW}
 use Rattle.model.specs.Cxl0.{Form, L, R, M}
-use Rattle.model.specs.OneLocation.{Local, Site, siteOf, machineOf, eventAt, concerns, effect, nextAt}
+use Rattle.model.specs.OneLocation.{Local, Site, siteOf, eventAt, concerns, effect, nextAt}
 use Rattle.model.specs.OneLocation.{storedAt, loadedAt}
 use Rattle.model.proofs.Tests.{T→true, not→false}
-use Rattle.model.proofs.Sharers.{remove-le}
+use Rattle.model.proofs.Sharers.{remove-le, remove-all-le}
 use Rattle.masks.specs.Sets.{OneToSix}
 use Rattle.masks.proofs.Codes.{insert-fits}
 use Rattle.rows.specs.declared.Row.{Row}
 use Rattle.entries.specs.Entries.{siteMeant}
 use Rattle.entries.specs.declared.Site as site
 use Rattle.rows.specs.Rows.{RowOf, Line, Right, Closed, Gap}
-use Rattle.rows.specs.Sites.{Describes, copyLeft, copyAfter}
+use Rattle.rows.specs.Sites.{NamesSix, Describes, copyLeft, copyAfter}
 use Rattle.rows.specs.Steps.{Stepped}
 use Rattle.rows.proofs.Rows.{right-cons}
 use Rattle.rows.proofs.Lines.{before-line}
@@ -51,6 +51,7 @@ copy-left k (Load i y v) s = refl
 copy-left k (LFlush i y) s = refl
 copy-left k (RFlush i y) s = refl
 copy-left k (Crash i) s = refl
+copy-left k (SetCrash set) s = refl
 copy-left k (RMW L i y v w) s = refl
 copy-left k (RMW R i y v w) s = refl
 copy-left k (RMW M i y v w) s = refl
@@ -62,10 +63,10 @@ stored-fits k own L i o v s = insert-fits i 0 o (omega arith)
 stored-fits k own R i o v s = insert-fits (k .owner) 0 own (omega arith)
 stored-fits k own M i o v s = omega arith
 
--- An event by one of machines 1 to 6 keeps codes below 64.
-pub effect-fits : (k : Site) → OneToSix (k .owner) → (e : Event) → OneToSix (machineOf e) → (s : Local)
+-- An event that names only machines 1 to 6 keeps codes below 64.
+pub effect-fits : (k : Site) → OneToSix (k .owner) → (e : Event) → NamesSix e → (s : Local)
     → Fits s → Fits (effect k (event e) s)
-unfolding effect
+unfolding effect NamesSix
 effect-fits k own (LStore i y v) o s h = stored-fits k own L i o v s
 effect-fits k own (RStore i y v) o s h = stored-fits k own R i o v s
 effect-fits k own (MStore i y v) o s h = stored-fits k own M i o v s
@@ -74,6 +75,7 @@ effect-fits k own (Load i y v) o s h =
 effect-fits k own (LFlush i y) o s h = h
 effect-fits k own (RFlush i y) o s h = h
 effect-fits k own (Crash i) o s h = lt-of-le-of-lt (remove-le i (s .code)) h
+effect-fits k own (SetCrash set) o s h = lt-of-le-of-lt (remove-all-le set (s .code)) h
 effect-fits k own (RMW form i y v w) o s h = stored-fits k own form i o w (loadedAt i s)
 
 module _ (sys : Topology) (x : Location) where
@@ -84,7 +86,7 @@ module _ (sys : Topology) (x : Location) where
       copy-cond (eventAt x e) _ s
       ∙ ap (λ (v : Value). cond (eventAt x e) v (s .copy)) (copy-left (siteOf sys x) e s)
 
-  pub next-fits : OneToSix (owner sys x) → (e : Event) → OneToSix (machineOf e) → (s : Local)
+  pub next-fits : OneToSix (owner sys x) → (e : Event) → NamesSix e → (s : Local)
       → Fits s → Fits (nextAt sys x (event e) s)
   unfolding nextAt concerns siteOf
   next-fits own e o s h = either Fits (eventAt x e) (effect-fits (siteOf sys x) own e o s h) h
@@ -119,7 +121,7 @@ owner-six d = rw (owned d) (d .machine)
 
 module _ (site : site.Site) (e : Event) (u : Value) (rest : Row) where
   -- The row `inner` before an event of the location, closed under the gap.
-  pub stepped : (inner row : Row) → OneToSix (machineOf e) → T (eventAt (site .location .0) e)
+  pub stepped : (inner row : Row) → NamesSix e → T (eventAt (site .location .0) e)
       → RowOf (λ c m. Line (siteMeant site) e u rest c m) inner
       → Gap (site .owner .0) u inner row → Closed u row
       → Stepped site e u rest row

@@ -3,17 +3,20 @@
 //
 // Internal: only crates of this project call it, and they meet what it requires. A machine's number is 1
 // to 6, a code is below 64, `rest` is closed, and an event is known: its operation is 1 LStore, 2 RStore, 3 MStore,
-// 4 Load, 5 LFlush, 6 RFlush, 7 crash, 8 L-RMW, 9 R-RMW or 10 M-RMW. The reader has refused every other number, so that
-// no event comes to the arms of these, and any value will do there: it is one that takes no test of its own.
+// 4 Load, 5 LFlush, 6 RFlush, 7 crash, 8 L-RMW, 9 R-RMW, 10 M-RMW or 11 set crash, its set in place of the location. The
+// reader has refused every other number, so that no event comes to the arms of these, and any value will do there: it is
+// one that takes no test of its own.
 use entries::Site;
 use masks::all;
 use masks::all_but_empty;
 use masks::alone;
 use masks::contains;
 use masks::gaining;
+use masks::holds;
 use masks::lacking;
 use masks::leading;
 use masks::losing;
+use masks::losing_all;
 use masks::single;
 use model::Event;
 use model::Machine;
@@ -23,7 +26,7 @@ ghost use mathlib.Core.Logic.{_↔_, _≢_};
 ghost use lib.Dec.{T};
 ghost use Prim.Native.Nat.{ℕ, _<_};
 ghost use Rattle.model.specs.Cxl0.{Load};
-ghost use Rattle.model.specs.Sharers.{has, insert, remove};
+ghost use Rattle.model.specs.Sharers.{has, insert, remove, removeAll};
 ghost use Rattle.model.specs.OneLocation;
 ghost use Rattle.model.specs.OneLocation.{eventAt, readableAt};
 ghost use Rattle.model.specs.Meaning.{meant};
@@ -233,6 +236,20 @@ fn crash_row(rest: Row, i: Machine, cleared: bool, initial: u32) -> Row
     }
 }
 
+// A crash of the machines of a set, which lose their copies, and the memory too where it is cleared.
+fn set_crash_row(rest: Row, set: u8, cleared: bool, initial: u32) -> Row
+    ensures { λ r. ⌜ RowOf (λ c m. Fine rest (removeAll set c) (cond cleared initial m)) r ⌝ }
+{
+    if cleared {
+        return any_row(losing_all(codes(rest, initial), set));
+    }
+    Row {
+        any: losing_all(rest.any, set),
+        one: losing_all(rest.one, set),
+        value: rest.value,
+    }
+}
+
 // The row closed under the silent steps of a gap in which copies have the value u: moves to the owner, and a
 // write-back if there is a copy.
 pub fn gap_row(owner: Machine, u: u32, inner: Row) -> Row
@@ -254,6 +271,9 @@ pub fn concerned(site: Site, e: Event) -> bool
     ensures { λ r. ⌜ r ≡ eventAt (site .location .0) (meant e) ⌝ }
 {
     if e.operation == 7 {
+        return true;
+    }
+    if e.operation == 11 {
         return true;
     }
     site.location.0 == e.location.0
@@ -279,8 +299,12 @@ pub fn row_before(site: Site, e: Event, u: u32, rest: Row) -> Row
         8 => rmw_row(rest, alone(i), u, e.value),
         9 => rmw_row(rest, alone(site.owner), u, e.value),
         10 => m_rmw_row(rest, u, e.value, e.written),
+        11 => {
+            let set = e.location.0;
+            set_crash_row(rest, set, holds(set, site.owner) & site.volatile, site.initial)
+        }
         0 => rest,
-        11..=255 => rest,
+        12..=255 => rest,
     }
 }
 

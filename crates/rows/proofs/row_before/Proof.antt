@@ -6,19 +6,38 @@ use Rattle.model.specs.OneLocation.{enabledAt, effect}
 use Rattle.model.specs.Operations.{eventOf}
 use Rattle.model.proofs.Operations.{operation-range, no-other}
 use Rattle.entries.specs.Entries.{siteMeant}
+use Rattle.rows.specs.Sites.{NamesSix}
 use Rattle.rows.proofs.RowSteps.{copy-load}
 use Rattle.rows.proofs.Lines.{line-any, line-none}
 use Rattle.rows.proofs.row_before.Statement.{statement}
 use Rattle.rows.proofs.row_before.Tie as tie
 
+-- The machine of a known event that names one.
+alone-requires : tie.Need-alone-requires
+unfolding eventOf NamesSix
+alone-requires c κs = rw (c .match .keys1) at (c .before .before .pre .1 .0 .machines)
+
 load-row-requires : tie.Need-load-row-requires
-unfolding eventOf
+unfolding eventOf NamesSix
 load-row-requires c κs =
     let start = c .before .before in
     let e = start .args .e in
     let x = start .args .site .location .0 in
     let copies = copy-load x (start .args .u) (e .machine .0) (e .location .0) (e .value) in
-    (start .pre .1 .0 .machine, rw (c .match .keys4, copies) at (start .pre .1 .1))
+    (rw (c .match .keys4) at (start .pre .1 .0 .machines), rw (c .match .keys4, copies) at (start .pre .1 .1))
+
+l-flush-row-requires : tie.Need-l-flush-row-requires
+unfolding eventOf NamesSix
+l-flush-row-requires c κs = rw (c .match .keys5) at (c .before .before .pre .1 .0 .machines)
+
+crash-row-requires : tie.Need-crash-row-requires
+unfolding eventOf NamesSix
+crash-row-requires c κs =
+    let arm = c .before .before .before in rw (arm .match .keys7) at (arm .before .before .pre .1 .0 .machines)
+
+alone-requires-3 : tie.Need-alone-requires-3
+unfolding eventOf NamesSix
+alone-requires-3 c κs = rw (c .match .keys8) at (c .before .before .pre .1 .0 .machines)
 
 l-store : tie.Need-returns
 unfolding eventOf enabledAt effect
@@ -75,25 +94,33 @@ m-rmw : tie.Need-returns-10
 unfolding eventOf enabledAt effect
 m-rmw c = rw (c .before .match .keys10) (c .m-rmw-row .ensures)
 
+set-crash : tie.Need-returns-11
+unfolding eventOf enabledAt effect crashes
+set-crash c =
+    let owned = c .before .before in
+    rw (owned .before .match .keys11, ← owned .holds .ensures) (λ d m h. line-any (c .set-crash-row .ensures d m h))
+
 -- No operation has another number.
-no-operation : tie.Need-returns-11
+no-operation : tie.Need-returns-12
 no-operation c = absurd (omega (arith, operation-range (c .before .before .pre .1 .0 .operation)))
 
-above-all : tie.Need-returns-12
+above-all : tie.Need-returns-13
 above-all c = absurd (no-other (c .before .before .pre .1 .0 .operation) (c .match .rest))
 
 pub row-before-spec : {M : Type 1} → statement M
 row-before-spec =
     tie.close
     (tie.spec
-    (λ c κs. search needs)
+    alone-requires
     (λ c κs. search needs)
     (λ c κs. search needs)
     (λ c κs. search needs)
     (λ c κs. search needs)
     load-row-requires
+    l-flush-row-requires
     (λ c κs. search needs)
-    (λ c κs. search needs)
+    crash-row-requires
+    alone-requires-3
     (λ c κs. search needs)
     (λ c κs. search needs)
     (λ c κs. search needs)
@@ -110,5 +137,6 @@ row-before-spec =
     l-rmw
     r-rmw
     m-rmw
+    set-crash
     no-operation
     above-all)

@@ -2,10 +2,7 @@
 use borrow.Author.Needs.{needs}
 use mathlib.Core.Path.{sym, _∙_}
 use Rattle.model.proofs.Tests.{true→T, false→not}
-use Rattle.masks.specs.Sets.{OneToSix}
-use Rattle.model.specs.OneLocation.{machineOf}
 use Rattle.model.specs.Meaning.{meant}
-use Rattle.model.proofs.Operations.{machine-of}
 use Rattle.rows.proofs.RowSteps.{stepped, skipped}
 use Rattle.rows.proofs.row_step.Statement.{statement}
 use Rattle.rows.proofs.row_step.Tie as tie
@@ -17,10 +14,9 @@ returns c =
     let e = a .e in
     let here = c .before .before in
     let t = true→T (sym (here .before .concerned .ensures) ∙ here .if1 .taken) in
-    let by : OneToSix (machineOf (meant e)) = rw machine-of (start .pre .1 .0 .machine) in
     let inner = c .before .row-before in
-    stepped (a .site) (meant e) (a .u) (a .rest) (inner .result) (c .gap-row .result) by t (inner .ensures)
-    (c .gap-row .ensures .0) (c .gap-row .ensures .1)
+    stepped (a .site) (meant e) (a .u) (a .rest) (inner .result) (c .gap-row .result)
+    (start .pre .1 .0 .machines) t (inner .ensures) (c .gap-row .ensures .0) (c .gap-row .ensures .1)
 
 returns-2 : tie.Need-returns-2
 returns-2 c =
