@@ -7,11 +7,8 @@ use mathlib.Core.List.{List, [], _∷_, _++_}
 use lib.ListN.{length, take, drop}
 use Rattle.model.specs.Cxl0.{Location, Value, Event}
 use Rattle.model.specs.declared.Event as event
-use Rattle.masks.specs.Sets.{OneToSix}
 use Rattle.model.specs.Meaning.{meant}
-use Rattle.model.specs.OneLocation.{machineOf}
-use Rattle.rows.specs.Sites.{Known, copyAfter, copyFrom}
-use Rattle.model.proofs.Operations.{machine-of}
+use Rattle.rows.specs.Sites.{NamesSix, Known, copyAfter, copyFrom}
 use Rattle.scratch.specs.Layout.{EVENTS, ROWS, MOST, OnlyIn}
 use Rattle.scratch.specs.Words.{eventIn, eventsFrom, eventsIn, structIn}
 use Rattle.scratch.proofs.Frames.{getD-below}
@@ -21,11 +18,9 @@ pub meant-read : (w : List ℕ) (j : ℕ) (e : event.Event) → e ≡ structIn w
 unfolding eventIn
 meant-read w j e read = ap meant read
 
--- A known event is by one of machines 1 to 6.
-pub known-machine : (w : List ℕ) (j : ℕ) → Known (structIn w j) → OneToSix (machineOf (eventIn w j))
-known-machine w j known =
-    let event = structIn w j in
-    rw (← meant-read w j event refl, machine-of event) (known .machine)
+-- A known event names only machines 1 to 6.
+pub known-machines : (w : List ℕ) (j : ℕ) → Known (structIn w j) → NamesSix (eventIn w j)
+known-machines w j known = rw (← meant-read w j (structIn w j) refl) (known .machines)
 
 -- ---- parts
 

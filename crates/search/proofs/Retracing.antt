@@ -14,14 +14,13 @@ use Rattle.rows.specs.declared.Row.{Row}
 use Rattle.entries.specs.declared.Site.{Site}
 use Rattle.rows.specs.Rows.{state, Fine, Empty, lastRow}
 use Rattle.rows.specs.Steps.{Stepped}
-use Rattle.model.specs.OneLocation.{machineOf}
-use Rattle.rows.specs.Sites.{Describes, copyAfter}
+use Rattle.rows.specs.Sites.{NamesSix, Describes, copyAfter}
 use Rattle.rows.proofs.RowSteps.{next-copy, next-fits, owner-six}
 use Rattle.scratch.specs.Layout.{ROWS, STEPS, WAYPOINTS, WORDS, MOST, OnlyIn}
 use Rattle.scratch.specs.Words.{eventIn, eventsIn, copyIn, waypointIn, RowPut}
 use Rattle.walking.specs.StepsBack.{OnlyRows}
 use Rattle.scratch.proofs.Frames.{getD-above}
-use Rattle.scratch.proofs.Events.{known-machine, events-same, events-drop}
+use Rattle.scratch.proofs.Events.{known-machines, events-same, events-drop}
 use Rattle.search.specs.Paths.{Retraceable, Retraced, RunsFrom}
 use Rattle.search.proofs.Backward.{Written, From, written-none, written-more, copy-next}
 
@@ -117,7 +116,7 @@ module _ {s : Site} {m : ℕ} {w : List ℕ} (able : Retraceable s m w) where
 
 -- A run of e and then es goes on, after e, from a state with the copies that e leaves.
 run-passes : (sys : Topology) (x : Location) → OneToSix (owner sys x)
-    → (e : Event) (es : List Event) (u : Value) → OneToSix (machineOf e)
+    → (e : Event) (es : List Event) (u : Value) → NamesSix e
     → (c n : ℕ) → c < 64 → HasRunAt sys x (e ∷ es) (state c u n)
     → (d k : ℕ) × (d < 64) × HasRunAt sys x es (state d (copyAfter x u e) k)
 run-passes sys x own e es u o c n h r =
@@ -143,7 +142,7 @@ module _ {s : Site} {m : ℕ} {w : List ℕ} (able : Retraceable s m w) (sys : T
       let f = run-leads run d (omega arith) in
       let r = rw (events-drop w d m h) at (f .3) in
       let g = run-passes sys x own (eventIn w d) (drop (suc d) (eventsIn w m)) (copyIn w d)
-      (known-machine w d (able .ready .known d h)) (f .0) (f .1) (f .2) r in
+      (known-machines w d (able .ready .known d h)) (f .0) (f .1) (f .2) r in
       (g .0, g .1, g .2, rw (copy-next x m w (able .ready .copies) d h) at (g .3))
 
 module _ {s : Site} {m : ℕ} {w : List ℕ} (able : Retraceable s m w) where

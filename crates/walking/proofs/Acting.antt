@@ -7,12 +7,11 @@ use mathlib.Core.Bool.{true}
 use lib.Dec.{T}
 use Rattle.model.specs.Cxl0 as cxl0
 use Rattle.model.specs.Cxl0.{Value, Topology, Event}
-use Rattle.model.specs.OneLocation.{Local, machineOf, eventAt, concerns, enabledAt, effect, possibleAt, nextAt}
+use Rattle.model.specs.OneLocation.{Local, eventAt, concerns, enabledAt, effect, possibleAt, nextAt}
 use Rattle.model.specs.Operations.{isOperation}
 use Rattle.model.specs.Meaning.{meant}
 use Rattle.model.specs.declared.Event as event
 use Rattle.model.proofs.Tests.{T→true, true→T}
-use Rattle.model.proofs.Operations.{machine-of}
 use Rattle.masks.specs.Sets.{OneToSix}
 use Rattle.entries.specs.Entries.{siteMeant, shortOf, entryOf, actedOf, actedBy}
 use Rattle.entries.specs.declared.Acted.{Acted}
@@ -30,8 +29,8 @@ pub acts : (s : Site) (e : event.Event) (u : Value) (p : Waypoint) (made : Acted
 unfolding actedBy actedOf shortOf entryOf
 acts s e u p made own known h equal =
     let z = effect (siteMeant s) (cxl0.event (meant e)) (state (p .code) u (p .memory)) in
-    let by : OneToSix (machineOf (meant e)) = rw (machine-of e) (known .machine) in
-    let fits : z .code < 64 = effect-fits (siteMeant s) own (meant e) by (state (p .code) u (p .memory)) h in
+    let at = state (p .code) u (p .memory) in
+    let fits : z .code < 64 = effect-fits (siteMeant s) own (meant e) (known .machines) at h in
     let byte : z .code % 256 ≡ z .code = mod-eq-of-lt (omega (arith, fits)) in
     let answer = rw (T→true {b = isOperation (e .operation)} (known .operation)) at equal in
     record {

@@ -1,21 +1,16 @@
 -- The codes of sets of machines in a byte: machine i is in the set if bit i - 1 is set.
-use Prim.Native.Nat.{ℕ, zero, suc, _+_, _-_, _/_, _%_, _^_, _≤_, _<_, suc-le-suc}
-use native.Mathlib.Nat.{mod-eq-of-lt}
+use Prim.Native.Nat.{ℕ, zero, suc, _+_, _/_, _%_, _^_, _≤_, _<_, suc-le-suc}
 use native.Mathlib.Numerals.{one-add, add-one}
 use native.Mathlib.Omega.{arith}
-use mathlib.Core.Path.{_≡_, sym, _∙_}
+use mathlib.Core.Path.{_≡_, sym}
 use mathlib.Core.Logic.{_↔_}
-use mathlib.Core.Bool.{not}
-use lib.Dec.{T, eqb, eqb→eq}
-use lib.Bits.{bitAnd, bitOr}
+use lib.Dec.{T, eqb→eq}
 use lib.Ieee.Fits.{eq→eqb}
 use lib.Pow.{shr-shr}
 use Rattle.model.specs.Cxl0.{Machine}
-use Rattle.model.specs.Sharers.{has, insert, remove}
-use Rattle.model.proofs.Bits as bits
-use Rattle.masks.specs.Sets.{In, Least, OneToSix}
+use Rattle.model.specs.Sharers.{has}
+use Rattle.masks.specs.Sets.{In, Least}
 use Rattle.masks.proofs.Sets.{in-bound}
-use Rattle.masks.proofs.Codes.{insert-fits}
 use Rattle.walking.specs.Trails.{FirstHolder}
 
 -- Bit i is that of machine i + 1.
@@ -37,17 +32,3 @@ least-first z c l = rw (add-one z) (record { held = in-has z c .0 (l .0); first 
     first : (j : Machine) → T (has j c) → suc z ≤ j
     first zero t = absurd t
     first (suc j) t = suc-le-suc (l .1 j (in-has j c .1 t))
-
--- b is the code of machine i alone.
-module _ (i : Machine) (c b : ℕ) (one : b ≡ insert i 0) (low : b < 64) (h : c < 64) where
-  bit : b ≡ insert i 0 % 256
-  bit = one ∙ sym (mod-eq-of-lt (omega arith))
-
-  pub has-bit : not (eqb (bitAnd c b) 0) ≡ has i c
-  has-bit = bits.has-byte i c b bit (omega arith)
-
-  pub with-bit : OneToSix i → bitOr c b ≡ insert i c
-  with-bit o = bits.insert-byte i c b bit (omega arith) ∙ mod-eq-of-lt (omega (arith, insert-fits i c o h))
-
-  pub without-bit : bitAnd c (255 - b) ≡ remove i c
-  without-bit = bits.remove-byte i c b bit (omega arith)

@@ -16,8 +16,7 @@ use Rattle.entries.specs.Entries.{siteMeant}
 use Rattle.entries.specs.declared.Acted.{Acted}
 use Rattle.entries.specs.declared.Site.{Site}
 use Rattle.rows.specs.Rows.{state, Fine, RowOf, Line, Right, Closed, Before}
-use Rattle.model.specs.OneLocation.{machineOf}
-use Rattle.rows.specs.Sites.{Describes, copyAfter}
+use Rattle.rows.specs.Sites.{NamesSix, Describes, copyAfter}
 use Rattle.rows.proofs.Rows.{run-enters}
 use Rattle.rows.proofs.Lines.{before-line}
 use Rattle.rows.proofs.Gaps.{right-skip}
@@ -28,7 +27,7 @@ use Rattle.walking.specs.Acting.{Acts}
 use Rattle.walking.specs.Walks.{Enters, Moved, Standing, Turned}
 use Rattle.scratch.specs.Words.{eventIn, rowIn, copyIn}
 use Rattle.scratch.proofs.Stored.{stored-none}
-use Rattle.scratch.proofs.Events.{known-machine}
+use Rattle.scratch.proofs.Events.{known-machines}
 use Rattle.walking.proofs.Acting.{acts-next}
 use Rattle.walking.proofs.Trails.{runsTo-none, runsTo-cons, runsTo-append, trail-runs}
 
@@ -41,7 +40,7 @@ module _ (s : Site) (e : Event) (u : Value) (rest inner : Row) (here : T (eventA
   before = before-line sys (s .location .0) e u rest inner here (rw (d .here) line)
 
   -- Silent steps lead into the row, if the events can be finished.
-  event-enters : OneToSix (machineOf e) → (es : List Event)
+  event-enters : NamesSix e → (es : List Event)
       → Right sys (s .location .0) es (copyAfter (s .location .0) u e) rest
       → HasRunAt sys (s .location .0) (e ∷ es) (state (p .code) u (p .memory))
       → Enters (s .owner .0) u inner (p .code) (p .memory)
@@ -80,8 +79,8 @@ elsewhere-runs sys s e away c u m =
 -- The event that was read, where the walk stands before event t.
 module _ {s : Site} {t : ℕ} {p : Waypoint} {w : List ℕ} (stands : Standing s t p w)
     {e : Event} (read : e ≡ eventIn w t) where
-  machine : OneToSix (machineOf e)
-  machine = rw read (known-machine w t (stands .steppable .known))
+  names : NamesSix e
+  names = rw read (known-machines w t (stands .steppable .known))
 
   runs : HasRunAt (stands .system) (s .location .0) (e ∷ stands .rest) (state (p .code) (copyIn w t) (p .memory))
   runs = rw read (stands .runs)
@@ -114,7 +113,7 @@ module _ {s : Site} {t : ℕ} {p : Waypoint} {w : List ℕ} (stands : Standing s
         (line : RowOf (λ c m. Line (siteMeant s) e u rest c m) inner) where
       pub turn-enters : Enters (s .owner .0) u inner (p .code) (p .memory)
       turn-enters =
-          event-enters s e u rest inner here line (stands .describes) p (stands .fits) machine (stands .rest)
+          event-enters s e u rest inner here line (stands .describes) p (stands .fits) names (stands .rest)
           (rw (read, copied, after) (stands .right)) (rw copied runs)
 
       -- The gap leads to q, where `act_at` answers for the event.

@@ -7,7 +7,7 @@
 use entries::Acted;
 use entries::Entry;
 use entries::Site;
-use masks::alone;
+use masks::holds;
 use masks::lowest;
 use model::Event;
 use model::Machine;
@@ -25,7 +25,6 @@ ghost use Prim.Native.Nat.{_+_, _≤_, _<_};
 ghost use mathlib.Core.Path.{_≡_};
 ghost use mathlib.Core.Logic.{_≢_};
 ghost use lib.ListN.{length};
-ghost use Rattle.model.specs.Sharers.{has};
 ghost use Rattle.masks.specs.Sets.{OneToSix};
 ghost use Rattle.rows.specs.Rows.{Fine};
 ghost use Rattle.model.specs.Meaning.{meant};
@@ -56,14 +55,6 @@ fn put_if(w: &mut [u64], at: usize, yes: bool, word: u64) -> usize
         return at + 1;
     }
     at
-}
-
-// Machine i is in the set of code c.
-fn holds(c: u8, i: Machine) -> bool
-    requires { ⌜ (c < 64) × OneToSix (i .0) ⌝ }
-    ensures { λ r. ⌜ r ≡ has (i .0) c ⌝ }
-{
-    c & alone(i) != 0
 }
 
 // The first machine in the set of code c.
