@@ -1,21 +1,21 @@
 -- The events that matter at a location have a run there exactly if all events have one.
-use Prim.Native.Nat.{ℕ}
+use Prim.Native.Nat.{ℕ, _≤_}
 use native.Mathlib.Omega.{arith}
 use mathlib.Core.Path.{_≡_, refl, ap, _∙_, subst, sym}
 use mathlib.Core.Logic.{⊎-elim, _↔_}
 use mathlib.Core.Bool.{Bool, true, false, cond, not, _&&_}
 use mathlib.Core.List.{List, [], _∷_}
 use lib.Dec.{T, eqb}
-use Rattle.model.specs.Cxl0.{Machine, Location, Value, Topology, owner, initial}
-use Rattle.model.specs.Cxl0.{Event, Crash}
+use Rattle.model.specs.Cxl0.{Location, Value, Topology, owner, initial}
+use Rattle.model.specs.Cxl0.{Event, Crash, SetCrash}
 use Rattle.model.specs.Cxl0.{Propagate, WriteBack, event}
-use Rattle.model.specs.Sharers.{has, remove}
+use Rattle.model.specs.Sharers.{has}
 use Rattle.model.specs.OneLocation.{Local, locationOf, siteOf, clearsSite, eventAt, silentAt, concerns, enabledAt}
-use Rattle.model.specs.OneLocation.{effect, possibleAt, nextAt}
+use Rattle.model.specs.OneLocation.{crashedAt, effect, possibleAt, nextAt}
 use Rattle.model.specs.OneLocation.{startAt, HasRunAt, Silently, still, step}
 use Rattle.model.proofs.Tests.{true→T, not→false, and-l, and-r}
-use Rattle.model.proofs.Sharers.{remove-le}
-use Rattle.model.proofs.Locations.{located, foreign-elsewhere}
+use Rattle.model.proofs.Sharers.{remove-le, remove-all-le}
+use Rattle.model.proofs.Locations.{IsCrash, single, several, located, foreign-elsewhere}
 use Rattle.model.proofs.SilentSteps.{has→some}
 use Rattle.model.proofs.Gaps.{has-run-nil, after-gap, has-run-cons}
 use Rattle.model.specs.OneLocation.{ownEvent}
@@ -35,37 +35,39 @@ module _ (sys : Topology) (x : Location) where
   unfolding possibleAt concerns
   elsewhere-possible e s t = rw (not→false {b = eventAt x e} t)
 
+  crash-possible : {e : Event} (s : Local) → IsCrash e → possibleAt sys x (event e) s ≡ true
+  unfolding possibleAt concerns enabledAt eventAt locationOf
+  crash-possible s (single i) = refl
+  crash-possible s (several set) = refl
+
   -- So is every event that does not name x, crashes too.
   pub foreign-possible : (e : Event) (s : Local) → T (not (ownEvent x e))
       → possibleAt sys x (event e) s ≡ true
-  unfolding possibleAt concerns enabledAt eventAt locationOf
   foreign-possible e s t =
-      ⊎-elim
-      (λ at. elsewhere-possible e s (foreign-elsewhere x e (at .1) t))
-      (λ crash. rw (crash .1) refl)
-      (located e)
+      ⊎-elim (λ at. elsewhere-possible e s (foreign-elsewhere x e (at .1) t)) (crash-possible s) (located e)
 
   cond-same : (b : Bool) (v : Value) → cond b v v ≡ v
   cond-same true v = refl
   cond-same false v = refl
 
   -- A crash leaves the start as it is.
-  start-crash : (i : Machine) → effect (siteOf sys x) (event (Crash i)) (startAt sys x) ≡ startAt sys x
-  unfolding effect siteOf startAt
-  start-crash i =
-      let none : remove i 0 ≡ 0 = omega (arith, remove-le i 0) in
-      let same = cond-same (clearsSite (Crash i) (siteOf sys x)) (initial sys x) in
+  lost-none : (e : Event) (c : ℕ) → c ≤ 0 → crashedAt (siteOf sys x) e c (startAt sys x) ≡ startAt sys x
+  unfolding siteOf startAt
+  lost-none e c less =
+      let none : c ≡ 0 = omega arith in
+      let same = cond-same (clearsSite e (siteOf sys x)) (initial sys x) in
       λ j. record { code = none j; copy = 0; memory = same j }
+
+  start-crash : {e : Event} → IsCrash e → nextAt sys x (event e) (startAt sys x) ≡ startAt sys x
+  unfolding nextAt concerns eventAt locationOf effect startAt
+  start-crash (single i) = lost-none (Crash i) _ (remove-le i 0)
+  start-crash (several set) = lost-none (SetCrash set) _ (remove-all-le set 0)
 
   -- At the start an event that does not name x leaves x as it is.
   foreign-next : (e : Event) → T (not (ownEvent x e))
       → nextAt sys x (event e) (startAt sys x) ≡ startAt sys x
-  unfolding nextAt concerns eventAt locationOf
   foreign-next e t =
-      ⊎-elim
-      (λ at. elsewhere-next e (startAt sys x) (foreign-elsewhere x e (at .1) t))
-      (λ crash. rw (crash .1) (start-crash (crash .0)))
-      (located e)
+      ⊎-elim (λ at. elsewhere-next e (startAt sys x) (foreign-elsewhere x e (at .1) t)) start-crash (located e)
 
   -- ---- silent steps
 

@@ -79,7 +79,7 @@ not-crash {op} is n₇ n₁₁ =
     and-i (isOperation op) (not (eqb op 7 || eqb op 11)) is
     (rw (not→false {b = eqb op 7} (ne→test op 7 n₇), not→false {b = eqb op 11} (ne→test op 11 n₁₁)) tt)
 
-located-numbers : {op : ℕ} → T (isLocated op) → T (isOperation op) × (op ≢ 7) × (op ≢ 11)
+pub located-numbers : {op : ℕ} → T (isLocated op) → T (isOperation op) × (op ≢ 7) × (op ≢ 11)
 unfolding isLocated
 located-numbers {op} at =
     let crash = eqb op 7 || eqb op 11 in
