@@ -10,6 +10,7 @@ pub mod Payloads
 pub mod Encoded
 pub mod Growing
 pub mod Events
+pub mod Members
 pub mod Order
 pub mod Gives
 pub mod Skips
