@@ -1,6 +1,6 @@
 #!/usr/bin/env bash
-# What is stored for the format's cases is what a reader and a recorder written from document 01 and request W-201 alone
-# give.
+# What is stored for the format's cases is what a reader and a recorder written from document 01 and requests W-201 and
+# W-203 alone give.
 set -o pipefail
 tests/section format crates/cases/stdin | python3 tests/format_reference.py |
     diff - <(tests/section format crates/cases/stdout)

@@ -1,14 +1,14 @@
 #!/usr/bin/env python3
 """judge_reference.py STDIN STDOUT: is STDOUT what crates/cases must print on STDIN, the judge's cases?
 
-Each log is judged anew, from document 01 and the sentence of request W-201 alone: a location at a time, forward,
-with every state that its silent steps can reach. A schedule that was printed is replayed on the whole system. The exit
-status is 0 only where nothing is wrong."""
+Each log is judged anew, from document 01 and requests W-201 and W-203 alone: a location at a time, forward, with every
+state that its silent steps can reach. A schedule that was printed is replayed on the whole system. The exit status is 0
+only where nothing is wrong."""
 import sys
 
-from format_reference import Refused, fields
+from format_reference import Refused, fields, members
 
-LSTORE, RSTORE, MSTORE, LOAD, LFLUSH, RFLUSH, CRASH, LRMW, RRMW, MRMW = range(1, 11)
+LSTORE, RSTORE, MSTORE, LOAD, LFLUSH, RFLUSH, CRASH, LRMW, RRMW, MRMW, SETCRASH = range(1, 12)
 STORE_OF = {LRMW: LSTORE, RRMW: RSTORE, MRMW: MSTORE}
 LONGEST = 1544
 WORDS = 4096
@@ -80,8 +80,10 @@ def after(records, owner, event, state):
         return state if caches[machine - 1] is None else None
     if operation == RFLUSH:
         return state if caches == nobody else None
-    lost = machine == owner and volatile(records, machine)
-    return without(caches, machine), 0 if lost else memory
+    down = members(location) if operation == SETCRASH else [machine]
+    for machine in down:
+        caches = without(caches, machine)
+    return caches, 0 if owner in down and volatile(records, owner) else memory
 
 
 def silently(owner, states):
@@ -101,7 +103,7 @@ def silently(owner, states):
 
 
 def concerns(event, location):
-    return event[0] == CRASH or event[2] == location
+    return event[0] in (CRASH, SETCRASH) or event[2] == location
 
 
 def first_impossible_at(records, location):

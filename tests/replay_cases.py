@@ -1,11 +1,11 @@
 #!/usr/bin/env python3
 """`cases` prints the cases of replay in crates/cases/stdin. `answers` reads those lines and prints what the program
-must print, by a schedule reader and a replay of the whole system of its own, written from document 01 and the sentence
-of request W-201 alone."""
+must print, by a schedule reader and a replay of the whole system of its own, written from document 01 and requests W-201
+and W-203 alone."""
 import sys
 
 sys.dont_write_bytecode = True
-from format_reference import Refused, asked, whole
+from format_reference import Refused, asked, members, whole
 
 # ---- replay
 
@@ -46,9 +46,10 @@ class System:
         elif operation == 6:
             return not self.copies(x)
         else:
-            self.caches[i] = {}
-            if not self.persistent >> (i - 1) & 1:
-                self.memory = [0 if k == i else m for k, m in zip(self.owners, self.memory)]
+            for down in members(x) if operation == 11 else [i]:
+                self.caches[down] = {}
+                if not self.persistent >> (down - 1) & 1:
+                    self.memory = [0 if k == down else m for k, m in zip(self.owners, self.memory)]
         return True
 
     def step(self, x, i):
