@@ -2,7 +2,7 @@
 """Prints the judge's cases of crates/cases/stdin: logs in the byte form of document 01, each with the areas that it is
 judged in. A case is a line `j NAME LOG OUTPUT OFFSET SCRATCH`, and a comment above it says what is to come out."""
 
-LSTORE, RSTORE, MSTORE, LOAD, LFLUSH, RFLUSH, CRASH, LRMW, RRMW, MRMW = range(1, 11)
+LSTORE, RSTORE, MSTORE, LOAD, LFLUSH, RFLUSH, CRASH, LRMW, RRMW, MRMW, SETCRASH = range(1, 12)
 LONGEST = 1544  # bytes of a verdict file
 WORDS = 4096  # the fewest numbers of a scratch area
 
@@ -23,6 +23,11 @@ def event(operation, machine, location=0, *values):
     """A read-modify-write where there are two values."""
     numbers = [byte for value in values or (0,) for byte in (value % 256, value // 256)]
     return field(0x05 if len(values) == 2 else 0x03, operation, machine, location, *numbers)
+
+
+def together(*machines):
+    """The set crash of these machines."""
+    return SETCRASH, 0, sum(1 << machine - 1 for machine in machines)
 
 
 END = field(0x04)
@@ -139,6 +144,110 @@ def rmw_logs():
          log([x % 3 + 1 for x in range(32)], events))
 
 
+def set_crash_logs():
+    """Set crashes: all machines of the set lose their caches in one step, and the volatile ones their memories."""
+    store, load = (LSTORE, 2, 0, 5), (LOAD, 2, 0, 5)
+    case("set-request", "the crashes of one-by-one in one step: impossible, 3",
+         log([1], [store, together(1, 2), load], machines=2, persistent=0b10))
+    case("set-request-0", "the same and a load of 0: allowed, no steps",
+         log([1], [store, together(1, 2), (LOAD, 2, 0, 0)], machines=2, persistent=0b10))
+    outcomes = {  # form, whether the owner is in the set, whether it is persistent: the outcomes of loads of 5 and 0
+        ("L", True, True): ("allowed, two steps", "allowed"), ("L", True, False): ("impossible, 3", "allowed"),
+        ("R", True, True): ("allowed, one step", "allowed"), ("R", True, False): ("impossible, 3", "allowed"),
+        ("M", True, True): ("allowed", "impossible, 3"), ("M", True, False): ("impossible, 3", "allowed"),
+        ("L", False, True): ("allowed, one step", "allowed"), ("L", False, False): ("allowed, one step", "allowed"),
+        ("R", False, False): ("allowed", "impossible, 3"), ("M", False, False): ("allowed", "impossible, 3")}
+    for (letter, inside, kept), results in outcomes.items():
+        form = {"L": LSTORE, "R": RSTORE, "M": MSTORE}[letter]
+        crash = together(1, 2) if inside else together(2, 3)
+        place, memory = "in" if inside else "out", "persistent" if kept else "volatile"
+        for value, outcome in zip((5, 0), results):
+            case(f"set-{letter}-{place}-{memory}-{value}", f"{letter}Store by a machine of the set, the {memory} owner "
+                 f"{'in it' if inside else 'outside'}, load of {value}: {outcome}",
+                 log([1], [(form, 2, 0, 5), crash, (LOAD, 3, 0, value)], persistent=0b111 if kept else 0))
+    mixed = [(MSTORE, 1, x, x + 1) for x in range(4)] + [together(1, 2, 4)]
+    for values, outcome in (((0, 2, 3, 0), "allowed, no steps"), ((1, 2, 3, 0), "impossible, 6"),
+                            ((0, 0, 3, 0), "impossible, 7"), ((0, 2, 0, 0), "impossible, 8"),
+                            ((0, 2, 3, 4), "impossible, 9")):
+        case(f"set-mixed-{''.join(map(str, values))}", "owners 1, 2 and 4 in the set, 2 persistent, a volatile owner 3 "
+             f"outside, loads of {', '.join(map(str, values))}: {outcome}",
+             log([1, 2, 3, 4], mixed + [(LOAD, 3, x, v) for x, v in enumerate(values)], machines=4, persistent=0b0010))
+    for name, crashes, outcome in (
+            ("1-2-3", [(CRASH, 1), (CRASH, 2), (CRASH, 3)], "allowed, one step"),
+            ("123", [together(1, 2, 3)], "impossible, 3"),
+            ("12-3", [together(1, 2), (CRASH, 3)], "allowed, one step"),
+            ("1-23", [(CRASH, 1), together(2, 3)], "allowed, one step"),
+            ("3-12", [(CRASH, 3), together(1, 2)], "impossible, 4"),
+            ("23-1", [together(2, 3), (CRASH, 1)], "impossible, 4"),
+            ("13-2", [together(1, 3), (CRASH, 2)], "impossible, 4"),
+            ("12-23", [together(1, 2), together(2, 3)], "allowed, one step"),
+            ("12-13", [together(1, 2), together(1, 3)], "impossible, 4"),
+            ("123-456", [together(1, 2, 3), together(4, 5, 6)], "impossible, 4"),
+            ("12-3456", [together(1, 2), together(3, 4, 5, 6)], "allowed, one step"),
+            ("12-45-36", [together(1, 2), together(4, 5), together(3, 6)], "allowed, one step")):
+        case(f"set-split-{name}", f"LStore by 3 to a volatile owner 1, crashes {name}, load of the value: {outcome}",
+             log([1], [(LSTORE, 3, 0, 5)] + crashes + [(LOAD, 2, 0, 5)], machines=6, persistent=0))
+    case("set-outside", "a copy outside the set stays: allowed, no steps",
+         log([1], [(LSTORE, 3, 0, 5), together(1, 2), (LOAD, 2, 0, 5)], persistent=0))
+    case("set-outside-flush", "the same copy, flushed after the set crash: allowed, one step",
+         log([1], [(LSTORE, 3, 0, 5), together(1, 2), (LFLUSH, 3, 0), (LOAD, 2, 0, 5)], persistent=0))
+    copies = [(LSTORE, 3, 0, 5), (LOAD, 4, 0, 5), (LOAD, 2, 0, 5)]
+    case("set-sharers", "of three copies those of the set are lost: allowed, no steps",
+         log([1], copies + [together(2, 3), (LFLUSH, 2, 0), (LFLUSH, 3, 0), (LOAD, 1, 0, 5)], machines=4))
+    case("set-sharers-gone", "a set that has all three and not the owner, load of 0: allowed, no steps",
+         log([1], copies + [together(2, 3, 4), (RFLUSH, 1, 0), (LOAD, 1, 0, 0)], machines=4))
+    case("set-sharers-memory", "the same with a load of the value: allowed",
+         log([1], copies + [together(2, 3, 4), (RFLUSH, 1, 0), (LOAD, 1, 0, 5)], machines=4))
+    case("set-again", "a value that was read after a set crash is read again: impossible, 5",
+         log([1], [store, together(2, 3), (LOAD, 1, 0, 0), (LOAD, 1, 0, 0), (LOAD, 1, 0, 5)]))
+    everyone = together(*range(1, 7))
+    for kept, flush, value, outcome in ((63, [], 5, "allowed, two steps"), (63, [], 0, "allowed, no steps"),
+                                        (63, [(LFLUSH, 2, 0)], 0, "allowed, one step"),
+                                        (63, [(RFLUSH, 2, 0)], 0, "impossible, 4"),
+                                        (63, [(RFLUSH, 2, 0)], 5, "allowed, two steps"),
+                                        (62, [(RFLUSH, 2, 0)], 5, "impossible, 4"), (1, [], 5, "allowed, two steps")):
+        words = {LFLUSH: "LFlush", RFLUSH: "RFlush"}[flush[0][0]] if flush else "no flush"
+        case(f"set-all-{kept}-{words.replace(' ', '-')}-{value}", f"all six machines at once, {words}, the owner "
+             f"{'persistent' if kept & 1 else 'volatile'}, load of {value}: {outcome}",
+             log([1], [store] + flush + [everyone, (LOAD, 6, 0, value)], machines=6, persistent=kept))
+    case("set-first", "a set crash first: allowed, no steps", log([1], [together(1, 3), (LOAD, 2, 0, 0)], persistent=0))
+    case("set-first-5", "a set crash first, and a load of 5: impossible, 2",
+         log([1], [together(1, 3), (LOAD, 2, 0, 5)], persistent=0))
+    case("set-last", "a set crash last: allowed, no steps", log([1], [store, load, together(1, 2, 3)], persistent=0))
+    case("set-alone", "no locations, set crashes only: allowed, no steps",
+         log([], [together(1, 2), everyone, together(5, 6)], machines=6, persistent=0b010101))
+    case("set-around", "set crashes before, between and after the events of a location: allowed, one step",
+         log([1, 2], [together(1, 2), (LSTORE, 2, 0, 5), together(1, 3), (CRASH, 2), (LOAD, 1, 0, 5), together(1, 2, 3),
+                      (LOAD, 3, 1, 0)], persistent=0))
+    for value, outcome in ((0, "allowed"), (1, "allowed"), (2, "allowed"), (3, "impossible, 4")):
+        case(f"set-memory-{value}", f"one of several values that memory may have: {outcome}",
+             log([1], [(RSTORE, 2, 0, 1), (RSTORE, 2, 0, 2), together(1, 2), (LOAD, 3, 0, value)]))
+    back = [(LSTORE, 2, 0, 1), together(2, 3), (LSTORE, 3, 0, 2), together(1, 3), (LSTORE, 2, 0, 3), together(1, 2)]
+    case("set-back", "several set crashes, a value from before the first: allowed",
+         log([1], back + [(LOAD, 3, 0, 1), (RFLUSH, 3, 0), together(1, 2, 3), (LOAD, 3, 0, 1)]))
+    case("set-back-volatile", "the same with a volatile owner: impossible, 7",
+         log([1], back + [(LOAD, 3, 0, 1)], persistent=0b110))
+    for form, letter, outcome in ((LRMW, "L", "allowed"), (RRMW, "R", "allowed"), (MRMW, "M", "impossible, 3")):
+        again = [(form, 1, 0, 0, 1), together(1, 3), (form, 2, 0, 0, 1)]
+        case(f"set-rmw-{letter}", f"0 to 1 by {letter}-RMW, set crash with the owner, again 0 to 1: {outcome}",
+             log([3], again))
+        case(f"set-rmw-{letter}-volatile", "the same with a volatile owner: allowed", log([3], again, persistent=0))
+        case(f"set-rmw-{letter}-kept", "a volatile owner, then a read-modify-write of what was stored: impossible, 3",
+             log([3], again[:2] + [(form, 2, 0, 1, 2)], persistent=0))
+    case("set-rmw-between", "an L-RMW between two set crashes, the owner in the second: allowed, three steps",
+         log([3], [(LRMW, 1, 0, 0, 1), together(1, 2), (LRMW, 2, 0, 1, 2), together(2, 3), (RRMW, 1, 0, 2, 3)]))
+    stores = [(LSTORE, 1, x, x + 1) for x in range(16)]
+    loads = [(LOAD, 3, x, x + 1) for x in range(16)]
+    case("set-steps-at-once", "16 copies moved and written back before one set crash: allowed, 32 steps",
+         log([2] * 16, stores + [together(1, 2)] + loads))
+    every = [together(*(i for i in range(1, 7) if 1 << i - 1 & code)) for code in range(64) if code & code - 1]
+    case("set-each", "each set of the six machines, and a copy written back before the first: allowed, two steps",
+         log([6], [(LSTORE, 1, 0, 5)] + every + [(LOAD, 2, 0, 5)], machines=6, persistent=0b100000))
+    turns = [e for n in range(1, 13) for e in ((LSTORE, 1, 0, n), together(1, 3), (LOAD, 3, 0, n))]
+    case("set-turns", "12 values that outlive a set crash each, and a last one with the volatile owner: impossible, 38",
+         log([2], turns + [together(1, 2, 3), (LOAD, 1, 0, 12)], persistent=0))
+
+
 def full(last):
     """128 events on 32 locations of six machines, three of them volatile: each location is stored, read elsewhere, put
     through a crash of every machine, read again and flushed; the last event is as given."""
@@ -189,12 +298,23 @@ def refusals():
     case("refused-8-last", "operation 8 after an impossible event: number 8", log([1], [(LOAD, 1, 0, 1), (8, 1)]))
     case("refused-8-rmw", "an operation 7 with two values: number 8", log([1], [(CRASH, 1, 0, 0, 0)]))
     case("refused-8-one", "an operation 10 with one value: number 8", log([1], [(MRMW, 1, 0, 0)]))
+    case("refused-8-twelve", "operation 12: number 8", log([1], [(12, 0, 3)]))
+    case("refused-8-set", "a set crash with two values: number 8", log([1], [together(1, 2) + (0, 0)]))
     case("refused-9", "machine 4 of 3: number 9", log([1], [(CRASH, 4)]))
     case("refused-9-rmw", "an R-RMW by machine 4 of 3: number 9", log([1], [(RRMW, 4, 0, 0, 0)]))
     case("refused-10", "location 1 of 1: number 10", log([1], [(LOAD, 1, 1, 0)]))
     case("refused-10-rmw", "an M-RMW of location 1 of 1: number 10", log([1], [(MRMW, 1, 1, 0, 0)]))
     case("refused-11", "a crash with a location: number 11", log([1], [(CRASH, 1, 1)]))
+    case("refused-11-set", "a set crash with a machine, before its empty set: number 11", log([1], [(SETCRASH, 1, 0)]))
+    case("refused-11-set-value", "a set crash with a value: number 11", log([1], [together(1, 2) + (256,)]))
     case("refused-12", "a byte after the end: number 12", good + b"\0")
+    case("refused-15", "a set crash of no machine, before its value: number 15", log([1], [(SETCRASH, 0, 0, 1)]))
+    case("refused-15-one", "a set crash of machine 2 alone: number 15", log([1], [together(2)]))
+    case("refused-15-absent", "a set crash of machines 1, 2 and 4 of 3: number 15", log([1], [together(1, 2, 4)]))
+    case("refused-15-seven", "a set crash of machines 6 and 7 of 6: number 15", log([1], [together(6, 7)], machines=6))
+    case("refused-15-single", "a set crash of machines 1 and 2 of 1: number 15", log([1], [together(1, 2)], machines=1))
+    case("refused-15-last", "a set crash of no machine after an impossible event: number 15",
+         log([1], [(LOAD, 1, 0, 1), (SETCRASH, 0, 0)]))
 
 
 def areas():
@@ -222,6 +342,7 @@ def areas():
 marked_logs()
 small_logs()
 rmw_logs()
+set_crash_logs()
 large_logs()
 refusals()
 areas()

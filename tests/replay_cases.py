@@ -1,7 +1,7 @@
 #!/usr/bin/env python3
 """`cases` prints the cases of replay in crates/cases/stdin. `answers` reads those lines and prints what the program
-must print, by a schedule reader and a replay of the whole system of its own, written from document 01 and requests W-201
-and W-203 alone."""
+must print, by a schedule reader and a replay of the whole system of its own, written from document 01 and requests
+W-201 and W-203 alone."""
 import sys
 
 sys.dont_write_bytecode = True
@@ -150,7 +150,12 @@ def changed(words, the_log, steps):
              file(head + [(before, machine, location)] + tail))
 
 
-L_STORE, R_STORE, M_STORE, LOAD, L_FLUSH, R_FLUSH, CRASH, L_RMW, R_RMW, M_RMW = range(1, 11)
+L_STORE, R_STORE, M_STORE, LOAD, L_FLUSH, R_FLUSH, CRASH, L_RMW, R_RMW, M_RMW, SET_CRASH = range(1, 12)
+
+
+def together(*machines):
+    """The set crash of these machines."""
+    return SET_CRASH, 0, sum(1 << i - 1 for i in machines), 0
 
 
 def three(owners, *events):
@@ -232,6 +237,36 @@ def rmw_cases():
     show("64 L-RMWs with 128 steps, twice as many", every, file(steps))
 
 
+def set_crash_cases():
+    store, load, crashes = (L_STORE, 2, 0, 5), (LOAD, 2, 0, 5), [(CRASH, i, 0, 0) for i in (1, 2, 3)]
+    show("two crashes, a move between", log(2, 2, [1], [store, *crashes[:2], load]), file([(2, 0, 2)]))
+    request = log(2, 2, [1], [store, together(1, 2), load])
+    for words, steps in (("no step", []), ("the move that was between the single crashes", [(2, 0, 2)]),
+                         ("that move before the set crash", [(1, 0, 2)]),
+                         ("a move and a write-back before it", [(1, 0, 2), (1, 0, 0)])):
+        show(f"the crashes in one step, {words}", request, file(steps))
+    for words, down, step in (("three crashes, a move between the last two", crashes, (3, 0, 3)),
+                              ("the first two in one step, the same move", [together(1, 2), crashes[2]], (2, 0, 3)),
+                              ("all in one step, the same move", [together(1, 2, 3)], (2, 0, 3))):
+        show(words, log(3, 0, [1], [(L_STORE, 3, 0, 5), *down, load]), file([step]))
+    changed("a persistent owner in the set", log(2, 1, [1], [store, together(1, 2), load]), [(1, 0, 2), (1, 0, 0)])
+    copies = [(L_STORE, 1, 0, 5), (LOAD, 2, 0, 5)]
+    lost = [together(1, 2), (L_FLUSH, 1, 0, 0), (L_FLUSH, 2, 0, 0)]
+    flushed = three([1], *copies, (LOAD, 3, 0, 5), *lost, (L_FLUSH, 3, 0, 0))
+    show("a copy outside the set stays", three([1], *copies, (LOAD, 3, 0, 5), *lost, load), file([]))
+    show("a copy outside the set stays, so that it is not flushed", flushed, file([]))
+    show("a copy outside the set stays, and moves after it", flushed, file([(6, 0, 3)]))
+    show("no copy of the set stays", three([1], *copies, *lost, (R_FLUSH, 3, 0, 0), (LOAD, 3, 0, 0)), file([]))
+    mixed = [(M_STORE, 1, x, x + 1) for x in range(3)] + [together(1, 2)]
+    for values in ((0, 2, 3), (1, 2, 3), (0, 0, 3), (0, 2, 0)):
+        show(f"volatile 1 and persistent 2 in the set, volatile 3 outside, loads of {values}",
+             log(3, 2, [1, 2, 3], mixed + [(LOAD, 3, x, v) for x, v in enumerate(values)]), file([]))
+    show("two set crashes alone", log(6, 0, [], [together(1, 6), together(2, 3, 4, 5)]), file([]))
+    again = [(L_RMW, 1, 0, 0, 1), together(1, 3), (M_RMW, 2, 0, 0, 1), together(1, 2, 3), (R_RMW, 1, 0, 1, 2)]
+    show("RMWs between set crashes, persistent memory", three([3], *again), file([]))
+    show("RMWs between set crashes, volatile memory", log(3, 0, [3], again), file([]))
+
+
 def refused_schedules():
     it = MARKED[4]
     step = field(0x11, 1, 0, 1)
@@ -291,10 +326,15 @@ def refused_logs():
             ("machine 4 of 3: 9", three([1], (LOAD, 4, 0, 0))),
             ("a location not listed: 10", three([1], (LOAD, 1, 1, 0))),
             ("a crash with a value: 11", three([1], (CRASH, 1, 0, 1))),
+            ("operation 12: 8", three([1], (12, 0, 3, 0))),
+            ("a set crash with a machine: 11", three([1], (SET_CRASH, 1, 3, 0))),
+            ("a set crash of one machine: 15", three([1], together(2))),
+            ("a set crash with an absent machine: 15", three([1], together(1, 2, 4))),
             ("a byte after the end: 12", three([1]) + b"\0")]:
         show(f"log: {words}", data, good)
     show("log: owner 4 of 3, before the schedule's 13: 6", three([4]), bad)
     show("log: a byte after the end, before the schedule's 13: 12", three([1]) + b"\0", bad)
+    show("log: a set crash of no machine, before the schedule's 13: 15", three([1], together()), bad)
 
 
 def drawn(state):
@@ -324,8 +364,10 @@ def drawn_cases(numbers, state, operations):
 
         def draw_event():
             op, i, x, v = 1 + below(operations), 1 + below(n), below(len(owners)), below(2)
-            values = (v, below(3)) if op > CRASH else (v if op < L_FLUSH else 0,)
+            values = (v, below(3)) if op in (L_RMW, R_RMW, M_RMW) else (v if op < L_FLUSH else 0,)
             one = (op, i, x if op != CRASH else 0, *values)
+            if op == SET_CRASH:
+                one = together(i, i % n + 1, *[k for k in range(1, n + 1) if k not in (i, i % n + 1) and below(2)])
             if system.event(*one) or below(16) == 0:
                 events.append(one)
 
@@ -338,10 +380,12 @@ def cases():
     marked_cases()
     edge_cases()
     rmw_cases()
+    set_crash_cases()
     refused_schedules()
     refused_logs()
     drawn_cases(range(1, 61), 4, CRASH)
     drawn_cases(range(61, 71), 5, M_RMW)
+    drawn_cases(range(71, 79), 7, SET_CRASH)
 
 
 {"cases": cases, "answers": answers}[sys.argv[1]]()
