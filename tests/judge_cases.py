@@ -205,11 +205,16 @@ def set_crash_logs():
                                         (63, [(LFLUSH, 2, 0)], 0, "allowed, one step"),
                                         (63, [(RFLUSH, 2, 0)], 0, "impossible, 4"),
                                         (63, [(RFLUSH, 2, 0)], 5, "allowed, two steps"),
-                                        (62, [(RFLUSH, 2, 0)], 5, "impossible, 4"), (1, [], 5, "allowed, two steps")):
+                                        (62, [(RFLUSH, 2, 0)], 5, "impossible, 4")):
         words = {LFLUSH: "LFlush", RFLUSH: "RFlush"}[flush[0][0]] if flush else "no flush"
         case(f"set-all-{kept}-{words.replace(' ', '-')}-{value}", f"all six machines at once, {words}, the owner "
              f"{'persistent' if kept & 1 else 'volatile'}, load of {value}: {outcome}",
              log([1], [store] + flush + [everyone, (LOAD, 6, 0, value)], machines=6, persistent=kept))
+    six, zeros = range(1, 7), [(LOAD, 1, x, 0) for x in range(6)]
+    case("set-owners", "volatile memories of all six, loads of 0: allowed, no steps",
+         log(six, [(MSTORE, 1, x, 5) for x in range(6)] + [everyone] + zeros, machines=6, persistent=0))
+    case("set-holders", "copies in the caches of all six, loads of 0: allowed, no steps",
+         log(six, [(LSTORE, 6 - x, x, 5) for x in range(6)] + [everyone] + zeros, machines=6))
     case("set-first", "a set crash first: allowed, no steps", log([1], [together(1, 3), (LOAD, 2, 0, 0)], persistent=0))
     case("set-first-5", "a set crash first, and a load of 5: impossible, 2",
          log([1], [together(1, 3), (LOAD, 2, 0, 5)], persistent=0))
@@ -219,7 +224,7 @@ def set_crash_logs():
     case("set-around", "set crashes before, between and after the events of a location: allowed, one step",
          log([1, 2], [together(1, 2), (LSTORE, 2, 0, 5), together(1, 3), (CRASH, 2), (LOAD, 1, 0, 5), together(1, 2, 3),
                       (LOAD, 3, 1, 0)], persistent=0))
-    for value, outcome in ((0, "allowed"), (1, "allowed"), (2, "allowed"), (3, "impossible, 4")):
+    for value, outcome in ((1, "allowed, one step"), (3, "impossible, 4")):
         case(f"set-memory-{value}", f"one of several values that memory may have: {outcome}",
              log([1], [(RSTORE, 2, 0, 1), (RSTORE, 2, 0, 2), together(1, 2), (LOAD, 3, 0, value)]))
     back = [(LSTORE, 2, 0, 1), together(2, 3), (LSTORE, 3, 0, 2), together(1, 3), (LSTORE, 2, 0, 3), together(1, 2)]
@@ -242,7 +247,7 @@ def set_crash_logs():
          log([2] * 16, stores + [together(1, 2)] + loads))
     every = [together(*(i for i in range(1, 7) if 1 << i - 1 & code)) for code in range(64) if code & code - 1]
     case("set-each", "each set of the six machines, and a copy written back before the first: allowed, two steps",
-         log([6], [(LSTORE, 1, 0, 5)] + every + [(LOAD, 2, 0, 5)], machines=6, persistent=0b100000))
+         log([6], [(LSTORE, 5, 0, 5)] + every + [(LOAD, 2, 0, 5)], machines=6, persistent=0b100000))
     turns = [e for n in range(1, 13) for e in ((LSTORE, 1, 0, n), together(1, 3), (LOAD, 3, 0, n))]
     case("set-turns", "12 values that outlive a set crash each, and a last one with the volatile owner: impossible, 38",
          log([2], turns + [together(1, 2, 3), (LOAD, 1, 0, 12)], persistent=0))
