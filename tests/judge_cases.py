@@ -198,7 +198,7 @@ def set_crash_logs():
          log([1], copies + [together(2, 3, 4), (RFLUSH, 1, 0), (LOAD, 1, 0, 0)], machines=4))
     case("set-sharers-memory", "the same with a load of the value: allowed",
          log([1], copies + [together(2, 3, 4), (RFLUSH, 1, 0), (LOAD, 1, 0, 5)], machines=4))
-    case("set-again", "a value that was read after a set crash is read again: impossible, 5",
+    case("set-again", "a load of 0 after a set crash, and then of what was lost: impossible, 5",
          log([1], [store, together(2, 3), (LOAD, 1, 0, 0), (LOAD, 1, 0, 0), (LOAD, 1, 0, 5)]))
     everyone = together(*range(1, 7))
     for kept, flush, value, outcome in ((63, [], 5, "allowed, two steps"), (63, [], 0, "allowed, no steps"),
