@@ -36,6 +36,7 @@ impl Corpus {
             locations: self.locations,
             events: self.events,
             crashes: self.crashes,
+            set_crashes: 0,
             values: 1000,
             operations: MIXED,
         };

@@ -1,7 +1,9 @@
 //! The kinds of logs, each from a seed of its own.
 
 use corpus::encode::field;
-use corpus::{change_one_load, damage, encode, litmus, plausible, random_log, Random, Shape};
+use corpus::{
+    change_one_load, damage, encode, litmus, near_set_crash, plausible, random_log, set_crash, Random, Shape,
+};
 use second::{Event, Log, Operation};
 
 use crate::report::Report;
@@ -79,7 +81,8 @@ fn limit(random: &mut Random) -> Vec<u8> {
         0 => {
             shape.events = 128;
             let mut log = plausible(random, &shape);
-            let more = Event { operation: *random.pick(&[Operation::Crash, Operation::LRmw]), ..crash(1) };
+            let rmw = Event { operation: Operation::LRmw, ..crash(1) };
+            let more = *random.pick(&[crash(1), rmw, set_crash(0b11)]);
             log.events.extend(vec![more; random.below(3)]);
             encode(&log)
         }
@@ -92,7 +95,8 @@ fn limit(random: &mut Random) -> Vec<u8> {
         }
         2 => {
             let (machines, persistent) = (random.below(9) as u8, random.byte() >> random.below(9).min(7));
-            encode(&Log { machines, persistent, owners: vec![random.below(8) as u8], events: vec![crash(1)] })
+            let event = if random.percent(50) { crash(1) } else { set_crash(random.byte() >> random.below(7)) };
+            encode(&Log { machines, persistent, owners: vec![random.below(8) as u8], events: vec![event] })
         }
         3 => cornered(random, &shape),
         4 => {
@@ -119,7 +123,7 @@ fn cornered(random: &mut Random, shape: &Shape) -> Vec<u8> {
     let mut log = plausible(random, shape);
     log.events.truncate(127);
     let near = |random: &mut Random, limit: usize| (limit + random.below(2)) as u8;
-    let operation = random.below(12) as u8;
+    let operation = random.below(13) as u8;
     let machine = if random.percent(70) { log.machines } else { near(random, log.machines.into()) };
     let unused = |random: &mut Random| random.below(8) as u8 / 7;
     let location = if operation == 7 { unused(random) } else { near(random, log.owners.len().saturating_sub(1)) };
@@ -127,7 +131,10 @@ fn cornered(random: &mut Random, shape: &Shape) -> Vec<u8> {
         5..=7 => [unused(random), unused(random)],
         _ => [random.byte(), random.byte()],
     };
-    let payload = [operation, machine, location, value[0], value[1], random.byte(), random.byte()];
+    let mut payload = [operation, machine, location, value[0], value[1], random.byte(), random.byte()];
+    if operation == 11 {
+        payload[..5].copy_from_slice(&near_set_crash(random, log.machines));
+    }
     let rmw = (8..=10).contains(&operation) ^ random.percent(10);
     let (tag, right, other) = if rmw { (5, 7, 5) } else { (3, 5, 7) };
     let length = if random.percent(95) { right } else { other };
@@ -137,7 +144,7 @@ fn cornered(random: &mut Random, shape: &Shape) -> Vec<u8> {
 }
 
 /// Stores by others, alone or in read-modify-writes, each flushed to memory or handed on: as many silent steps as events
-/// can force, and more.
+/// can force, and more. Now and then all but the owner crash in one step, and nothing is lost.
 fn long_schedule(random: &mut Random) -> Vec<u8> {
     let machines = random.between(2, 6) as u8;
     let rmws = *random.pick(&[0, 50, 100]);
@@ -156,6 +163,9 @@ fn long_schedule(random: &mut Random) -> Vec<u8> {
         }
         let flush = if random.percent(70) { Operation::RFlush } else { Operation::LFlush };
         log.events.push(event(flush, 2, 0));
+        if machines > 2 && flush == Operation::RFlush && random.percent(10) {
+            log.events.push(set_crash((1 << machines) - 2));
+        }
     }
     log.events.truncate(128);
     encode(&log)
@@ -183,8 +193,8 @@ fn wrong_length(random: &mut Random, shape: &Shape) -> Vec<u8> {
 
 /// Every log of at most three events with values 0 and 1, on one location of two machines.
 fn small(mut compare: impl FnMut(&[u8])) {
-    let mut events = vec![crash(1), crash(2)];
-    for operation in Operation::ALL.into_iter().filter(|operation| operation.uses_location()) {
+    let mut events = vec![crash(1), crash(2), set_crash(0b11)];
+    for operation in Operation::ALL.into_iter().filter(|operation| !operation.is_crash()) {
         let values = if operation.uses_value() { 0..=1 } else { 0..=0 };
         for value in values {
             for written in if operation.is_rmw() { 0..=1 } else { 0..=0 } {

@@ -1,7 +1,7 @@
 //! The recorder against the second one and against an encoder that asks nothing.
 
 use corpus::encode::{encode, fields};
-use corpus::Random;
+use corpus::{near_set_crash, Random};
 use second::{Log, Refusal};
 
 use crate::report::{hex, Report};
@@ -55,6 +55,10 @@ fn some_field(random: &mut Random) -> (u8, Vec<u8>) {
     let mut payload = match tag {
         1 => vec![small(random, 7), small(random, 63)],
         2 => vec![small(random, 7)],
+        3 if random.percent(20) => {
+            let machines = random.between(1, 6) as u8;
+            near_set_crash(random, machines).to_vec()
+        }
         3 => {
             let operation = small(random, 8);
             let value = if operation < 5 { random.byte() } else { random.below(20) as u8 / 19 };
@@ -62,7 +66,7 @@ fn some_field(random: &mut Random) -> (u8, Vec<u8>) {
             vec![operation, small(random, 7), location, value, small(random, 1) * (value & 1)]
         }
         5 => {
-            let mut payload = vec![random.between(7, 11) as u8, small(random, 7), small(random, 3)];
+            let mut payload = vec![random.between(7, 12) as u8, small(random, 7), small(random, 3)];
             payload.extend((0..4).map(|_| random.byte()));
             payload
         }

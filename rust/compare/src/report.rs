@@ -16,6 +16,8 @@ pub struct Verdicts {
     pub refused: BTreeMap<u8, usize>,
     /// Accepted logs that have a read-modify-write.
     pub with_rmw: usize,
+    /// Accepted logs that have a set crash.
+    pub with_set_crash: usize,
 }
 
 /// Counts of all that was compared.
@@ -59,11 +61,11 @@ impl Report {
 
     pub fn print(&self) {
         for (kind, verdicts) in &self.kinds {
-            let Verdicts { allowed, impossible, refused, with_rmw } = verdicts;
+            let Verdicts { allowed, impossible, refused, with_rmw, with_set_crash } = verdicts;
             let turned_away: usize = refused.values().sum();
             println!("{kind}: {} logs", allowed + impossible + turned_away);
             println!("    {allowed} allowed, {impossible} impossible, {turned_away} refused{}", numbers(refused));
-            println!("    {with_rmw} of the accepted with read-modify-writes");
+            println!("    {with_rmw} of the accepted with read-modify-writes, {with_set_crash} with set crashes");
         }
         println!(
             "{} schedules replayed by both sides, {} silent steps, at most {} in one",

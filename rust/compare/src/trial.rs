@@ -1,7 +1,7 @@
 //! One log through every call on both sides.
 
 use corpus::Random;
-use second::{read_schedule, replay, verdict_file, Log, Refusal, Replayed, Step, Verdict};
+use second::{read_schedule, replay, verdict_file, Log, Operation, Refusal, Replayed, Step, Verdict};
 use second::{FILE_MOST, SCRATCH_LEAST, STEPS_MOST};
 
 use crate::report::{hex, Report, Verdicts};
@@ -108,7 +108,9 @@ fn judged(
             return Vec::new();
         }
     };
-    verdicts.with_rmw += usize::from(records.events.iter().any(|event| event.operation.is_rmw()));
+    let any = |is: fn(Operation) -> bool| usize::from(records.events.iter().any(|event| is(event.operation)));
+    verdicts.with_rmw += any(Operation::is_rmw);
+    verdicts.with_set_crash += any(|operation| operation == Operation::SetCrash);
     let verdict = second::judge(records);
     match &verdict {
         Verdict::Impossible(event) => {

@@ -16,6 +16,8 @@ pub struct Shape {
     pub events: usize,
     /// So many of a hundred events are crashes.
     pub crashes: usize,
+    /// So many of a hundred crashes are set crashes, unless there is only one machine.
+    pub set_crashes: usize,
     /// Values are below this.
     pub values: usize,
     /// What happens beside crashes, each as often as it stands here.
@@ -90,6 +92,7 @@ impl Shape {
             locations,
             events,
             crashes: *random.pick(&[0, 5, 15, 30, 70]),
+            set_crashes: *random.pick(&[0, 30, 60]),
             values: *random.pick(&[2, 3, 5, 65536]),
             operations: some_operations(random, 70),
         }
@@ -116,13 +119,50 @@ impl Shape {
             _ => random.between(1, self.machines) as u8,
         };
         if owners.is_empty() || random.percent(self.crashes) {
-            return Event { operation: Operation::Crash, machine, location: 0, value: 0, written: 0 };
+            return self.crash(random, machine);
         }
         let operation = *random.pick(self.operations);
         let value = random.below(self.values) as u16;
         let written = if operation.is_rmw() { random.below(self.values) as u16 } else { 0 };
         Event { operation, machine, location, value: if operation.uses_value() { value } else { 0 }, written }
     }
+
+    /// A crash of the machine alone or with others. A shape without set crashes takes no random number for them: so the
+    /// benchmark's logs are the same as before there were any.
+    fn crash(&self, random: &mut Random, machine: u8) -> Event {
+        let alone = Event { operation: Operation::Crash, machine, location: 0, value: 0, written: 0 };
+        if self.set_crashes == 0 || self.machines == 1 || !random.percent(self.set_crashes) {
+            return alone;
+        }
+        set_crash(set_with(random, machine, self.machines as u8))
+    }
+}
+
+/// A crash of a set of machines, with bit i - 1 for machine i.
+pub fn set_crash(set: u8) -> Event {
+    Event { operation: Operation::SetCrash, machine: 0, location: set, value: 0, written: 0 }
+}
+
+/// A set of the machine and of one other or more; there must be two.
+fn set_with(random: &mut Random, machine: u8, machines: u8) -> u8 {
+    let other = (machine - 1 + random.between(1, usize::from(machines) - 1) as u8) % machines;
+    let more = if random.percent(50) { random.byte() & ((1 << machines) - 1) } else { 0 };
+    1 << (machine - 1) | 1 << other | more
+}
+
+/// The payload of a set crash for so many machines, 1 to 6: right, or at the edge of what is right in some of its bytes.
+pub fn near_set_crash(random: &mut Random, machines: u8) -> [u8; 5] {
+    let machine = random.between(1, machines.into()) as u8;
+    let set = match random.below(8) {
+        0 => 0,
+        1 => 1 << random.below(8),
+        2 => 1 << random.between(machines.into(), 7) | 1 << (machine - 1),
+        3 => random.byte(),
+        _ if machines == 1 => 1,
+        _ => set_with(random, machine, machines),
+    };
+    let mut unused = || if random.percent(85) { 0 } else { random.between(1, 7) as u8 };
+    [11, unused(), set, unused(), unused()]
 }
 
 /// A log by simulating the system: random silent steps between the events, and each load and each read-modify-write
@@ -184,6 +224,7 @@ pub fn litmus(random: &mut Random) -> Log {
         locations: random.between(1, 2),
         events: random.between(2, 10),
         crashes: 25,
+        set_crashes: 40,
         values: 3,
         operations: some_operations(random, 20),
     };
@@ -215,7 +256,7 @@ pub fn damage(random: &mut Random, bytes: &[u8]) -> Vec<u8> {
     for _ in 0..random.between(1, 3) {
         let at = random.below(bytes.len() + 1);
         // A small number is likelier to be something that the format knows.
-        let byte = if random.percent(50) { random.below(12) as u8 } else { random.byte() };
+        let byte = if random.percent(50) { random.below(13) as u8 } else { random.byte() };
         match random.below(5) {
             0 | 1 if at < bytes.len() => bytes[at] = byte,
             2 if at < bytes.len() => {

@@ -1,4 +1,4 @@
-//! The fourteen marked logs of the specification.
+//! The fourteen marked logs of the specification, and the two of request W-203.
 
 use second::{Event, Log, Operation, Operation::*};
 
@@ -85,5 +85,17 @@ pub fn marked_logs() -> Vec<Marked> {
             Some(5),
         ),
         marked("a copy may move before its holder crashes", true, &[2], &[l, crash(1), load(2, 1)], None),
+    ]
+}
+
+/// What machine 2 stored is read after it and the owner, with volatile memory, lost their power: one after the other, and
+/// in one step. A copy may move only between the two crashes of the first.
+pub fn apart_and_together() -> [Marked; 2] {
+    let (store, load) = ((LStore, 2, 0, 5), (Load, 2, 0, 5));
+    let apart = [store, (Crash, 1, 0, 0), (Crash, 2, 0, 0), load];
+    let together = [store, (SetCrash, 0, 0b011, 0), load];
+    [
+        marked("a copy may move between two crashes", false, &[1], &apart, None),
+        marked("nothing moves inside a set crash", false, &[1], &together, Some(3)),
     ]
 }

@@ -1,4 +1,4 @@
-//! A second judge of CXL0 logs, written from the specification (document 01 and request W-201) alone.
+//! A second judge of CXL0 logs, written from the specification (document 01, requests W-201 and W-203) alone.
 //!
 //! It shares no code, no table and no idea of search with the proved judge: it reads the bytes, follows every choice of
 //! silent steps breadth first, one location at a time, and remembers how it got to each state. [`whole`] does the same

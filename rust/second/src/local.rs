@@ -33,15 +33,20 @@ impl Local {
             Operation::Load => self.all_hold(v).then(|| self.with_copy(i, v)),
             Operation::LFlush => self.cache(i).is_none().then_some(*self),
             Operation::RFlush => (self.holders == 0).then_some(*self),
-            Operation::Crash => unreachable!("a crash is no event of one location"),
+            Operation::Crash | Operation::SetCrash => unreachable!("a crash is no event of one location"),
             Operation::LRmw | Operation::RRmw | Operation::MRmw => unreachable!("a load and a store, above"),
         }
     }
 
-    /// The state after a crash of a machine.
-    pub(crate) fn crash(&self, machine: u8, owner: u8, log: &Log) -> Local {
-        let mut next = self.without_copy(machine);
-        if machine == owner && !log.is_persistent(machine) {
+    /// The state after a crash of these machines, all in one step.
+    pub(crate) fn crash(&self, crashed: u8, owner: u8, log: &Log) -> Local {
+        let mut next = *self;
+        let mut lost = self.holders & crashed;
+        while lost != 0 {
+            next = next.without_copy(lost.trailing_zeros() as u8 + 1);
+            lost &= lost - 1;
+        }
+        if crashed >> (owner - 1) & 1 == 1 && !log.is_persistent(owner) {
             next.memory = 0;
         }
         next

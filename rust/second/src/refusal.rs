@@ -19,7 +19,7 @@ impl Refusal {
     pub const BAD_OWNER: Refusal = Refusal(6);
     /// A 33rd location or a 129th event.
     pub const TOO_MANY: Refusal = Refusal(7);
-    /// The operation is none of its field's: 1 to 7, or 8 to 10 for a read-modify-write.
+    /// The operation is none of its field's: 1 to 7 and 11, or 8 to 10 for a read-modify-write.
     pub const UNKNOWN_OPERATION: Refusal = Refusal(8);
     /// The event's machine is none of the system.
     pub const NO_SUCH_MACHINE: Refusal = Refusal(9);
@@ -31,6 +31,8 @@ impl Refusal {
     pub const TRAILING_BYTES: Refusal = Refusal(12);
     /// The verdict file is no schedule for this log.
     pub const BAD_SCHEDULE: Refusal = Refusal(13);
+    /// A set crash of fewer than two machines, or of one that is none of the system.
+    pub const BAD_MACHINE_SET: Refusal = Refusal(15);
 }
 
 impl fmt::Display for Refusal {

@@ -4,7 +4,7 @@
 use std::collections::HashSet;
 
 use crate::local::Local;
-use crate::{Log, Operation, Step};
+use crate::{Log, Step};
 
 /// How a state was reached: from the node at `parent`, by a silent step or by an event.
 struct Node {
@@ -30,15 +30,19 @@ impl Search {
         self.reach(Local::default(), 0, None);
         let mut layer = 0;
         for (passed, event) in log.events[..events].iter().enumerate() {
-            let crash = event.operation == Operation::Crash;
-            if !crash && event.location != location {
+            let crashed = event.crashed();
+            if crashed == 0 && event.location != location {
                 continue;
             }
             let end = self.nodes.len();
             self.seen.clear();
             for parent in layer..end {
                 let state = self.nodes[parent].state;
-                let next = if crash { Some(state.crash(event.machine, owner, log)) } else { state.apply(event, owner) };
+                let next = match crashed {
+                    0 => state.apply(event, owner),
+                    // One step of the layer, whatever their number: nothing moves between the machines of a set.
+                    _ => Some(state.crash(crashed, owner, log)),
+                };
                 if let Some(next) = next {
                     self.reach(next, parent, None);
                 }

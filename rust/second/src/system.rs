@@ -53,14 +53,22 @@ impl System {
 
     /// Makes an event happen; if it is not possible, says so, and the state stays.
     pub fn apply(&mut self, log: &Log, event: &Event) -> bool {
-        let i = usize::from(event.machine - 1);
-        if event.operation == Operation::Crash {
-            self.crash(log, event.machine);
-            return true;
+        match event.operation {
+            Operation::Crash => {
+                self.crash(log, &[event.machine]);
+                return true;
+            }
+            Operation::SetCrash => {
+                let named = |machine: &u8| event.location & 1 << (machine - 1) != 0;
+                self.crash(log, &(1..=log.machines).filter(named).collect::<Vec<_>>());
+                return true;
+            }
+            _ => {}
         }
         if let Some([load, store]) = event.load_and_store() {
             return self.apply(log, &load) && self.apply(log, &store);
         }
+        let i = usize::from(event.machine - 1);
         let x = usize::from(event.location);
         let k = usize::from(log.owners[x] - 1);
         let v = event.value;
@@ -82,7 +90,8 @@ impl System {
             Operation::Load => return self.memory[x] == v,
             Operation::LFlush => return self.caches[i][x].is_none(),
             Operation::RFlush => return !cached,
-            Operation::Crash | Operation::LRmw | Operation::RRmw | Operation::MRmw => unreachable!("handled above"),
+            Operation::Crash | Operation::SetCrash => unreachable!("handled above"),
+            Operation::LRmw | Operation::RRmw | Operation::MRmw => unreachable!("handled above"),
         }
         true
     }
@@ -111,13 +120,16 @@ impl System {
         true
     }
 
-    fn crash(&mut self, log: &Log, machine: u8) {
-        self.caches[usize::from(machine - 1)].fill(None);
-        if !log.is_persistent(machine) {
-            for (memory, &owner) in self.memory.iter_mut().zip(&log.owners) {
-                if owner == machine {
-                    *memory = 0;
-                }
+    /// The machines' caches are emptied, and what they own is 0 again where their memory is volatile.
+    fn crash(&mut self, log: &Log, machines: &[u8]) {
+        for (cache, machine) in self.caches.iter_mut().zip(1..) {
+            if machines.contains(&machine) {
+                cache.fill(None);
+            }
+        }
+        for (memory, owner) in self.memory.iter_mut().zip(&log.owners) {
+            if machines.contains(owner) && !log.is_persistent(*owner) {
+                *memory = 0;
             }
         }
     }

@@ -1,7 +1,7 @@
 //! Refusals in their order, and what stands at the limits.
 
-use corpus::encode;
 use corpus::encode::field;
+use corpus::{encode, set_crash};
 use second::{judge_bytes, judge_into, read, record, replay_bytes};
 use second::{Event, Log, Operation, Refusal, Replayed, Step, Verdict, FILE_MOST, SCRATCH_LEAST};
 
@@ -66,7 +66,9 @@ fn contents_of_events_from_left_to_right() {
         ([8, 0, 9, 1, 1], 8),
         ([9, 1, 0, 0, 0], 8),
         ([10, 1, 0, 0, 0], 8),
-        ([11, 1, 0, 0, 0], 8),
+        ([12, 1, 0, 0, 0], 8),
+        ([12, 0, 3, 0, 0], 8),
+        ([255, 0, 3, 0, 0], 8),
         ([7, 1, 0, 0, 0], 0),
         ([7, 0, 1, 1, 1], 9),
         ([7, 3, 1, 1, 1], 9),
@@ -77,6 +79,21 @@ fn contents_of_events_from_left_to_right() {
         ([5, 1, 0, 1, 0], 11),
         ([6, 1, 0, 0, 1], 11),
         ([4, 2, 0, 255, 255], 0),
+        ([11, 0, 3, 0, 0], 0),
+        // The machine byte, the set and the value, each before what stands after it. Neither 9 nor 10 is asked.
+        ([11, 1, 3, 0, 0], 11),
+        ([11, 1, 0, 1, 0], 11),
+        ([11, 255, 255, 0, 0], 11),
+        ([11, 0, 0, 0, 0], 15),
+        ([11, 0, 1, 1, 0], 15),
+        ([11, 0, 2, 0, 0], 15),
+        ([11, 0, 4, 0, 0], 15),
+        ([11, 0, 5, 0, 1], 15),
+        ([11, 0, 7, 0, 0], 15),
+        ([11, 0, 0x83, 0, 0], 15),
+        ([11, 0, 255, 1, 0], 15),
+        ([11, 0, 3, 1, 0], 11),
+        ([11, 0, 3, 0, 1], 11),
     ] {
         assert_eq!(number(&log_of(&[(3, &payload), (4, &[])])), expected, "{payload:?}");
     }
@@ -86,6 +103,8 @@ fn contents_of_events_from_left_to_right() {
         ([4, 1, 0, 0, 0, 0, 0], 8),
         ([7, 1, 0, 0, 0, 0, 0], 8),
         ([11, 1, 0, 0, 0, 0, 0], 8),
+        ([11, 0, 3, 0, 0, 0, 0], 8),
+        ([12, 1, 0, 0, 0, 0, 0], 8),
         ([255, 1, 0, 0, 0, 0, 0], 8),
         ([8, 0, 1, 0, 0, 0, 0], 9),
         ([9, 3, 1, 0, 0, 0, 0], 9),
@@ -125,6 +144,10 @@ fn counts_at_their_limits() {
     let full = encode(&crashes(32, 0));
     let open = &full[..full.len() - 3];
     assert_eq!(number(&[open, &[2, 0, 0]].concat()), 7);
+    let mut together = Log { events: vec![set_crash(0b111111); 128], ..crashes(32, 0) };
+    assert_eq!(number(&encode(&together)), 0);
+    together.events.push(set_crash(0));
+    assert_eq!(number(&encode(&together)), 7);
 }
 
 /// Events and read-modify-writes are counted together.
@@ -161,6 +184,8 @@ fn recorder() {
     assert_eq!(record(&mut buffer, 9, 3, &[8, 1, 0, 0, 0]), Err(Refusal(8)));
     assert_eq!(record(&mut buffer, 9, 5, &[7, 1, 0, 0, 0, 0, 0]), Err(Refusal(8)));
     assert_eq!(record(&mut buffer, 9, 3, &[7, 1, 0, 0, 0]), Err(Refusal(1)));
+    assert_eq!(record(&mut buffer, 9, 3, &[11, 0, 7, 0, 0]), Err(Refusal(15)));
+    assert_eq!(record(&mut buffer, 9, 3, &[11, 0, 3, 0, 0]), Err(Refusal(1)));
     assert_eq!(record(&mut buffer, 9, 5, &[8, 1, 0, 0, 0, 1, 0]), Err(Refusal(1)));
     assert_eq!(record(&mut buffer, 9, 4, &[]), Ok(12));
     assert_eq!(record(&mut buffer, 12, 4, &[]), Err(Refusal(12)));
@@ -169,6 +194,8 @@ fn recorder() {
     buffer[..9].copy_from_slice(&log_of(&[]));
     assert_eq!(record(&mut buffer, 9, 5, &[10, 2, 0, 1, 2, 3, 4]), Ok(19));
     assert_eq!(buffer[9..], [5, 7, 0, 10, 2, 0, 1, 2, 3, 4, 0xaa]);
+    assert_eq!(record(&mut buffer, 9, 3, &[11, 0, 3, 0, 0]), Ok(17));
+    assert_eq!(buffer[9..], [3, 5, 0, 11, 0, 3, 0, 0, 3, 4, 0xaa]);
 }
 
 #[test]

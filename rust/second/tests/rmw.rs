@@ -50,7 +50,6 @@ fn codes_and_parts() {
         let [first, second] = rmw(form, 3, 4).load_and_store().unwrap();
         assert_eq!([first, second], [load(1, 3), event(store, 1, 4, 0)]);
     }
-    assert_eq!((Operation::from_code(0), Operation::from_code(11)), (None, None));
     assert_eq!(load(1, 3).load_and_store(), None);
 }
 

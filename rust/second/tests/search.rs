@@ -9,6 +9,7 @@ fn small(random: &mut Random) -> Shape {
         locations: random.between(1, 2),
         events: random.below(9),
         crashes: 25,
+        set_crashes: 40,
         values: 3,
         operations: some_operations(random, 50),
     }
