@@ -123,7 +123,7 @@ fn cornered(random: &mut Random, shape: &Shape) -> Vec<u8> {
     let mut log = plausible(random, shape);
     log.events.truncate(127);
     let near = |random: &mut Random, limit: usize| (limit + random.below(2)) as u8;
-    let operation = random.below(13) as u8;
+    let operation = if random.percent(20) { 11 } else { random.below(13) as u8 };
     let machine = if random.percent(70) { log.machines } else { near(random, log.machines.into()) };
     let unused = |random: &mut Random| random.below(8) as u8 / 7;
     let location = if operation == 7 { unused(random) } else { near(random, log.owners.len().saturating_sub(1)) };

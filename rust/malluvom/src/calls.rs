@@ -64,7 +64,7 @@ fn bits(answer: u64, low: u32, width: u32) -> u64 {
 fn accepted(answer: u64) -> Result<u64, Refusal> {
     match bits(answer, 0, 8) as u8 {
         0 => Ok(answer),
-        number => Err(Refusal::from_number(number).expect("the library refuses with 1 to 13")),
+        number => Err(Refusal::from_number(number).expect("the library refuses with a number of the specification")),
     }
 }
 

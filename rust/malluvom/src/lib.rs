@@ -24,6 +24,7 @@
 mod calls;
 mod judging;
 pub mod log;
+mod machine_set;
 mod recorder;
 mod refusal;
 pub mod schedule;
@@ -31,6 +32,7 @@ pub mod schedule;
 pub use calls::{judge_into, read, record, replay, Counts, Judged, Replayed, FILE_MOST, SCRATCH_LEAST};
 pub use judging::{Judge, Verdict};
 pub use log::{Event, Log, Operation};
+pub use machine_set::MachineSet;
 pub use recorder::Recorder;
 pub use refusal::Refusal;
 pub use schedule::{Schedule, Step};

@@ -1,4 +1,4 @@
-use crate::{record, Refusal};
+use crate::{record, MachineSet, Refusal};
 
 /// An accepted log has at most 32 locations and 128 events, of which read-modify-writes are the longest.
 const LOG_MOST: usize = 5 + 32 * 4 + 128 * 10 + 3;
@@ -27,7 +27,7 @@ impl Recorder {
         self.field(0x02, &[owner])
     }
 
-    /// The next event, with an operation from 1 to 7. What it does not use must be 0.
+    /// The next event, with an operation from 1 to 7 or 11. What it does not use must be 0.
     pub fn event(&mut self, operation: u8, machine: u8, location: u8, value: u16) -> Result<(), Refusal> {
         let [low, high] = value.to_le_bytes();
         self.field(0x03, &[operation, machine, location, low, high])
@@ -37,6 +37,11 @@ impl Recorder {
     pub fn rmw(&mut self, operation: u8, machine: u8, location: u8, read: u16, written: u16) -> Result<(), Refusal> {
         let ([low, high], [written_low, written_high]) = (read.to_le_bytes(), written.to_le_bytes());
         self.field(0x05, &[operation, machine, location, low, high, written_low, written_high])
+    }
+
+    /// The next event, a crash of two machines or more in one step.
+    pub fn set_crash(&mut self, machines: MachineSet) -> Result<(), Refusal> {
+        self.event(11, 0, machines.bits(), 0)
     }
 
     /// Any field.

@@ -18,7 +18,7 @@ pub enum Refusal {
     BadOwner,
     /// A 33rd location or a 129th event.
     TooMany,
-    /// The operation is none of its field's: 1 to 7, or 8 to 10 for a read-modify-write.
+    /// The operation is none of its field's: 1 to 7 and 11, or 8 to 10 for a read-modify-write.
     UnknownOperation,
     /// The event's machine is outside 1 to the machine count.
     NoSuchMachine,
@@ -30,11 +30,13 @@ pub enum Refusal {
     TrailingBytes,
     /// The verdict file is no schedule for this log.
     BadSchedule,
+    /// A set crash of fewer than two machines, or of one that is outside 1 to the machine count.
+    BadMachineSet = 15,
 }
 
 impl Refusal {
-    /// All refusals, by number from 1.
-    pub const ALL: [Refusal; 13] = [
+    /// All refusals, by rising number. No refusal has the number 14.
+    pub const ALL: [Refusal; 14] = [
         Refusal::BufferTooShort,
         Refusal::Truncated,
         Refusal::UnexpectedTag,
@@ -48,16 +50,17 @@ impl Refusal {
         Refusal::ReservedNotZero,
         Refusal::TrailingBytes,
         Refusal::BadSchedule,
+        Refusal::BadMachineSet,
     ];
 
-    /// The number of the specification, 1 to 13.
+    /// The number of the specification.
     pub fn number(self) -> u8 {
         self as u8
     }
 
     /// The refusal with this number.
     pub fn from_number(number: u8) -> Option<Refusal> {
-        Self::ALL.get(usize::from(number).wrapping_sub(1)).copied()
+        Self::ALL.into_iter().find(|refusal| refusal.number() == number)
     }
 
     /// What is wrong, in words.
@@ -70,12 +73,13 @@ impl Refusal {
             Refusal::BadTopology => "the machine count is not 1 to 6, or an absent machine is called persistent",
             Refusal::BadOwner => "the owner is not one of the machines",
             Refusal::TooMany => "more than 32 locations or more than 128 events",
-            Refusal::UnknownOperation => "the operation is not 1 to 7, or not 8 to 10 in a field 05",
+            Refusal::UnknownOperation => "the operation is not 1 to 7 or 11, or not 8 to 10 in a field 05",
             Refusal::NoSuchMachine => "the event's machine is not one of the machines",
             Refusal::NoSuchLocation => "the event's location is not listed",
             Refusal::ReservedNotZero => "a byte that the operation does not use is not 0",
             Refusal::TrailingBytes => "something stands after the end field",
             Refusal::BadSchedule => "the verdict file does not say allowed, or does not fit this log",
+            Refusal::BadMachineSet => "fewer than two machines crash together, or one that is not there",
         }
     }
 }

@@ -170,6 +170,86 @@ fn a_read_modify_write_that_cannot_read_is_explained() {
     assert!(second.contains("   1  L-RMW by 1 of L0, 0 to 5\n"), "{second}");
 }
 
+/// Set crashes as text and as fields; the first is how they are shown.
+const SET_LINES: [&str; 4] = ["Crash of 1, 2", "Crash of 2, 1", "crash 0x1 2", "CRASH of 2,1"];
+const SET_FIELD: [u8; 8] = [3, 5, 0, 11, 0, 3, 0, 0];
+
+#[test]
+fn set_crashes_are_written_down() {
+    let folder = folder("set-unchecked");
+    let text = folder.join("a.txt");
+    let assembled = |lines: &str| {
+        fs::write(&text, format!("unchecked\n{lines}\n")).unwrap();
+        let output = tool(&["asm", text.to_str().unwrap()]);
+        assert_eq!(status(&output), 0, "{lines}");
+        output.stdout
+    };
+    for line in SET_LINES {
+        assert_eq!(assembled(line), SET_FIELD, "{line}");
+    }
+    assert_eq!(assembled("Crash of 2"), [3, 5, 0, 7, 2, 0, 0, 0]);
+    assert_eq!(assembled("Crash of 8, 7, 1"), [3, 5, 0, 11, 0, 0xc1, 0, 0]);
+}
+
+#[test]
+fn set_crashes_are_shown_explained_and_drawn() {
+    let folder = folder("set");
+    let [text, log, again] = ["a.txt", "a.log", "again.txt"].map(|name| folder.join(name));
+    let [text, log, again] = [&text, &log, &again].map(|path| path.to_str().unwrap());
+    let assemble = |events: &str| {
+        fs::write(text, format!("machines 3 persistent 2\nL0 of 1\nL1 of 2\n{events}\n")).unwrap();
+        assert_eq!(status(&tool(&["asm", text, "-o", log])), 0, "{events}");
+        fs::read(log).unwrap()
+    };
+    let stores = "MStore by 3 to L0 of 4\nLStore by 2 to L1 of 7\nLoad by 3 of L1, 7";
+    let bytes = assemble(&format!("{stores}\nCrash of 3, 2, 1\nLoad by 2 of L0, 0\nLoad by 3 of L1, 0"));
+    assert_eq!(bytes[37..45], [3, 5, 0, 11, 0, 7, 0, 0]);
+    assert_eq!(status(&tool(&["judge", log])), 0);
+    assert_eq!(status(&tool(&["show", log, "-o", again])), 0);
+    let shown = fs::read_to_string(again).unwrap();
+    assert!(shown.lines().any(|line| line.starts_with("Crash of 1, 2, 3 ")), "{shown}");
+    assert_eq!(tool(&["asm", again]).stdout, bytes);
+    let explained = String::from_utf8(tool(&["explain", log]).stdout).unwrap();
+    // Machine 1 is volatile: it loses what is in its memory. L1 is in the persistent memory of 2, where it never came.
+    let words = "1 loses L0 from its memory; 2 loses L1 from its cache; 3 loses L1 from its cache; \
+                 L0: no cache holds it, memory 0; L1: no cache holds it, memory 0";
+    let lines = explained.lines().filter(|line| line.contains("Crash of 1, 2, 3") && line.ends_with(words));
+    assert_eq!(lines.count(), 1, "{explained}");
+    for (location, crosses) in [("L0", 3), ("L1", 3)] {
+        let svg = String::from_utf8(tool(&["draw", log, "--location", location]).stdout).unwrap();
+        assert!(svg.contains(": Crash</text>"), "{svg}");
+        assert_eq!(svg.matches("class=\"crash\"").count(), crosses, "{svg}");
+    }
+    // Who is not in the set keeps its copy and has no cross.
+    assemble(&format!("{stores}\nCrash of 1, 2\nLFlush by 2 of L1\nLoad by 3 of L1, 7"));
+    assert_eq!(status(&tool(&["judge", log])), 0);
+    let svg = String::from_utf8(tool(&["draw", log, "--location", "L1"]).stdout).unwrap();
+    assert_eq!(svg.matches("class=\"crash\"").count(), 2, "{svg}");
+    let explained = String::from_utf8(tool(&["explain", log]).stdout).unwrap();
+    assert!(explained.contains("1 loses L0 from its memory; 2 loses L1 from its cache; L0: "), "{explained}");
+}
+
+/// The request's example: one after the other, a copy moves between; in one step, nothing does.
+#[test]
+fn crashes_in_a_row_are_no_set_crash() {
+    let folder = folder("set-or-row");
+    let [text, log] = ["a.txt", "a.log"].map(|name| folder.join(name));
+    let [text, log] = [&text, &log].map(|path| path.to_str().unwrap());
+    let explained = |crashes: &str| {
+        let head = "machines 2 persistent 2\nL0 of 1\nLStore by 2 to L0 of 5";
+        fs::write(text, format!("{head}\n{crashes}\nLoad by 2 of L0, 5\n")).unwrap();
+        assert_eq!(status(&tool(&["asm", text, "-o", log])), 0);
+        let judged = String::from_utf8(tool(&["judge", log]).stdout).unwrap();
+        (judged, String::from_utf8(tool(&["explain", log]).stdout).unwrap())
+    };
+    let (judged, run) = explained("Crash of 1\nCrash of 2");
+    assert!(judged.ends_with(": allowed 1\n") && run.contains("~ propagate by 2 of L0"), "{judged}{run}");
+    let (judged, why) = explained("Crash of 1, 2");
+    assert!(judged.ends_with(": impossible 3\n"), "{judged}");
+    assert!(why.contains("a load by 2 of L0 can return 0, not 5.\n"), "{why}");
+    assert!(why.contains("left out, it could return 5:\n   2  Crash of 1, 2\n"), "{why}");
+}
+
 #[test]
 fn folders_and_json() {
     let root = Path::new(env!("CARGO_MANIFEST_DIR")).join("../../examples/marked");
@@ -204,6 +284,16 @@ fn errors_have_status_2_and_say_what_is_wrong() {
         ),
         ("machines 2 persistent all\nL0 of 1\nM-RMW 1 L0 0 65536", "'65536' is no number that fits"),
         ("machines 2 persistent all\nL0 of 1\nM-RMW by 3 of L0, 0 to 1", ":3: number 9 (NoSuchMachine)"),
+        ("machines 2 persistent all\nCrash of 1, 3", ":2: number 15 (BadMachineSet)"),
+        ("machines 2 persistent all\nCrash of 1, 8", ":2: number 15 (BadMachineSet)"),
+        ("machines 1 persistent all\nCrash of 1, 2", ":2: number 15 (BadMachineSet)"),
+        ("machines 2 persistent all\nCrash of 1, 2, 1", ":2: machine 1 is named twice"),
+        ("machines 2 persistent all\nCrash of 0, 1", ":2: machine 0 cannot crash with others"),
+        ("machines 2 persistent all\nCrash of 1, 9", ":2: machine 9 cannot crash with others"),
+        ("machines 2 persistent all\nCrash of 1, 256", "'256' is no number that fits"),
+        ("machines 2 persistent all\nCrash of 1, L0", "'L0' is no number that fits"),
+        ("machines 2 persistent all\nCrash of 0", ":2: number 9 (NoSuchMachine)"),
+        ("machines 2 persistent all\nCrash", ":2: this line should look like 'Crash of 1'"),
         ("machines 2 persistent all\nbytes 00", "unchecked"),
         ("machines 2 persistent all\nend\nCrash of 1", ":3: number 12 (TrailingBytes)"),
         ("machines 2 persistent all\nStore by 1", "'Store' begins no line"),
@@ -241,7 +331,7 @@ fn no_bytes_make_it_panic() {
     let (log, file) = (folder.join("a.log"), folder.join("a.verdict"));
     let mut random = Random::new(6);
     for round in 0..120 {
-        let shape = Shape { crashes: 20, ..Shape::random(&mut random) };
+        let shape = Shape { crashes: 20, set_crashes: 50, ..Shape::random(&mut random) };
         let bytes = match round % 4 {
             0 => {
                 let length = random.below(300);

@@ -66,7 +66,7 @@ fn chosen(log: &Log, bad: Option<Event>) -> Result<u8, Failure> {
         return Ok(event.location);
     }
     let events = |x: u8| {
-        let own = log.events.iter().filter(|event| event.operation != Operation::Crash && event.location == x);
+        let own = log.events.iter().filter(|event| !event.operation.is_crash() && event.location == x);
         own.count()
     };
     let locations = 0..log.owners.len() as u8;
@@ -211,9 +211,10 @@ impl<'a> Picture<'a> {
 
     /// An event; without a number it is the impossible one.
     fn event(&mut self, column: usize, number: Option<usize>, event: &Event) {
-        let (x, y) = (Self::middle(column), self.lane(event.machine));
+        let x = Self::middle(column);
         let label = match event.operation {
-            operation @ (Operation::Crash | Operation::LFlush | Operation::RFlush) => operation.to_string(),
+            crash if crash.is_crash() => crash.to_string(),
+            flush @ (Operation::LFlush | Operation::RFlush) => flush.to_string(),
             operation => format!("{operation} {}", event.stored().unwrap_or(event.value)),
         };
         let (label, class) = match number {
@@ -225,14 +226,22 @@ impl<'a> Picture<'a> {
             let read = event.value;
             let _ = writeln!(self.svg, "<text class=\"{class}\" x=\"{x}\" y=\"{}\">reads {read}</text>", TOP - 21);
         }
-        let shape = match (event.operation, number) {
-            (Operation::Crash, _) | (_, None) => {
-                let class = if number.is_some() { "crash" } else { "bad" };
-                format!("<path class=\"{class}\" d=\"M{} {}l16 16m0 -16l-16 16\"/>", x - 8, y - 8)
+        if event.operation.is_crash() {
+            for machine in event.crashed().iter() {
+                self.cross("crash", x, self.lane(machine));
             }
-            _ => format!("<circle class=\"event\" cx=\"{x}\" cy=\"{y}\" r=\"7\"/>"),
-        };
-        self.svg.push_str(&shape);
-        self.svg.push('\n');
+            return;
+        }
+        let y = self.lane(event.machine);
+        match number {
+            None => self.cross("bad", x, y),
+            Some(_) => {
+                let _ = writeln!(self.svg, "<circle class=\"event\" cx=\"{x}\" cy=\"{y}\" r=\"7\"/>");
+            }
+        }
+    }
+
+    fn cross(&mut self, class: &str, x: usize, y: usize) {
+        let _ = writeln!(self.svg, "<path class=\"{class}\" d=\"M{} {}l16 16m0 -16l-16 16\"/>", x - 8, y - 8);
     }
 }

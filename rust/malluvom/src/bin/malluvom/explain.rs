@@ -44,7 +44,10 @@ fn run(log: &Log, schedule: &Schedule) -> String {
     let mut text = String::new();
     let mut held = vec![Held::default(); log.owners.len()];
     for action in actions(log, schedule) {
-        let mut changes = Vec::new();
+        let mut changes = match &action {
+            Action::Event(_, event) if event.operation == Operation::SetCrash => losses(log, &held, event),
+            _ => Vec::new(),
+        };
         for (x, held) in held.iter_mut().enumerate() {
             let before = *held;
             *held = before.after(log, x as u8, &action);
@@ -61,6 +64,26 @@ fn run(log: &Log, schedule: &Schedule) -> String {
     text
 }
 
+/// What each machine of a set crash loses in its one step: copies, and values in a volatile memory.
+fn losses(log: &Log, held: &[Held], crash: &Event) -> Vec<String> {
+    let listed = |lost: &dyn Fn(u8, &Held) -> bool| {
+        let lost = (0..).zip(held).filter(|(x, held)| lost(*x, held)).map(|(x, _)| format!("L{x}"));
+        lost.collect::<Vec<_>>().join(", ")
+    };
+    let loses = |machine: u8| {
+        let copies = listed(&|_, held| held.by(machine));
+        let forgets = |x| log.owner(x) == machine && !log.is_persistent(machine);
+        let memory = listed(&|x, held| forgets(x) && held.memory != 0);
+        match (copies.as_str(), memory.as_str()) {
+            ("", "") => format!("{machine} loses nothing"),
+            (copies, "") => format!("{machine} loses {copies} from its cache"),
+            ("", memory) => format!("{machine} loses {memory} from its memory"),
+            (copies, memory) => format!("{machine} loses {copies} from its cache and {memory} from its memory"),
+        }
+    };
+    crash.machines.iter().map(loses).collect()
+}
+
 /// What an action does to a location, or why it is possible; nothing if it does not concern it.
 fn change(x: usize, before: Held, after: Held, action: &Action) -> Option<String> {
     let words = match action {
@@ -71,7 +94,7 @@ fn change(x: usize, before: Held, after: Held, action: &Action) -> Option<String
             format!("{} loaded from {source}, then {}{lost}", event.value, after.words())
         }
         _ if before != after => return Some(format!("L{x}: {}", after.words())),
-        Action::Event(_, event) if event.operation != Operation::Crash && usize::from(event.location) == x => {
+        Action::Event(_, event) if !event.operation.is_crash() && usize::from(event.location) == x => {
             match event.operation {
                 Operation::Load if before.sharers == 0 => "loaded from memory".into(),
                 Operation::Load => "loaded from a cache".into(),

@@ -1,7 +1,7 @@
 //! A run for showing: the events of a log with the silent steps of a schedule that replay said yes to, and what one
 //! location holds after each. It judges nothing.
 
-use malluvom::{Event, Log, Operation, Schedule, Step};
+use malluvom::{Event, Log, MachineSet, Operation, Schedule, Step};
 
 /// Something that happens.
 #[derive(Clone, Copy)]
@@ -72,10 +72,11 @@ impl Held {
                     Operation::Load if sharers == 0 => self,
                     Operation::Load => Held { sharers: sharers | bit(machine), copy, memory },
                     Operation::LFlush | Operation::RFlush => self,
-                    Operation::Crash => {
-                        let forgotten = machine == owner && !log.is_persistent(machine);
+                    Operation::Crash | Operation::SetCrash => {
+                        let crashed = event.crashed();
+                        let forgotten = crashed.contains(owner) && !log.is_persistent(owner);
                         let memory = if forgotten { 0 } else { memory };
-                        Held { sharers: sharers & !bit(machine), copy, memory }
+                        Held { sharers: sharers & !crashed.bits(), copy, memory }
                     }
                 }
             }
@@ -93,8 +94,7 @@ impl Held {
 
 /// What the caches of a set of machines do, in words, or nothing if there is none.
 pub fn caches(set: u8, verb: &str) -> Option<String> {
-    let machines: Vec<String> =
-        (1..=8).filter(|machine| set >> (machine - 1) & 1 == 1).map(|machine| machine.to_string()).collect();
+    let machines: Vec<String> = MachineSet::from_bits(set).iter().map(|machine| machine.to_string()).collect();
     match &machines[..] {
         [] => None,
         [one] => Some(format!("cache of {one} {verb}s")),

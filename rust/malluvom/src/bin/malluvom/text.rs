@@ -1,6 +1,6 @@
 //! The lines of the text form, which docs/TEXT-FORM.md describes.
 
-use malluvom::{Event, Operation};
+use malluvom::{Event, MachineSet, Operation};
 
 /// One line of a text.
 pub enum Line {
@@ -78,9 +78,12 @@ fn machines(rest: &[&str]) -> Result<Line, String> {
 }
 
 fn event(operation: Operation, rest: &[&str]) -> Result<Event, String> {
-    let mut event = Event { operation, machine: 0, location: 0, value: 0, written: 0 };
+    let mut event = Event { operation, machine: 0, location: 0, value: 0, written: 0, machines: MachineSet::EMPTY };
     match (operation, rest) {
         (Operation::Crash, [machine]) => event.machine = number(machine)?,
+        (Operation::Crash, [_, _, ..]) => {
+            (event.operation, event.machines) = (Operation::SetCrash, machine_set(rest)?);
+        }
         (Operation::LFlush | Operation::RFlush, [machine, location]) => {
             (event.machine, event.location) = (number(machine)?, location_number(location)?);
         }
@@ -93,11 +96,23 @@ fn event(operation: Operation, rest: &[&str]) -> Result<Event, String> {
             (event.value, event.written) = (number(value)?, number(written)?);
         }
         _ => {
-            let example = Event { operation, machine: 1, location: 0, value: 1, written: 2 };
+            let example = Event { machine: 1, value: 1, written: 2, ..event };
             return Err(format!("this line should look like '{example}'"));
         }
     }
     Ok(event)
+}
+
+/// The machines of a set crash, each named once.
+fn machine_set(words: &[&str]) -> Result<MachineSet, String> {
+    words.iter().try_fold(MachineSet::EMPTY, |set, word| {
+        let machine = number(word)?;
+        match MachineSet::one(machine) {
+            Some(_) if set.contains(machine) => Err(format!("machine {machine} is named twice")),
+            Some(one) => Ok(set.union(one)),
+            None => Err(format!("machine {machine} cannot crash with others")),
+        }
+    })
 }
 
 /// A number, base ten or with 0x in front.
