@@ -19,29 +19,31 @@ FILE_MOST = 1544
 SCRATCH_LEAST = 4096
 LOG_MOST = 1416
 
-REFUSALS = (
-    "BufferTooShort",
-    "Truncated",
-    "UnexpectedTag",
-    "WrongLength",
-    "BadTopology",
-    "BadOwner",
-    "TooMany",
-    "UnknownOperation",
-    "NoSuchMachine",
-    "NoSuchLocation",
-    "ReservedNotZero",
-    "TrailingBytes",
-    "BadSchedule",
-)
+# No refusal has the number 14.
+REFUSALS = {
+    1: "BufferTooShort",
+    2: "Truncated",
+    3: "UnexpectedTag",
+    4: "WrongLength",
+    5: "BadTopology",
+    6: "BadOwner",
+    7: "TooMany",
+    8: "UnknownOperation",
+    9: "NoSuchMachine",
+    10: "NoSuchLocation",
+    11: "ReservedNotZero",
+    12: "TrailingBytes",
+    13: "BadSchedule",
+    15: "BadMachineSet",
+}
 
 
 class Refused(Exception):
-    """The library refuses its input: `number` 1 to 13, and `name`."""
+    """The library refuses its input: `number` and `name`, as in REFUSALS."""
 
     def __init__(self, number: int):
         self.number = number
-        self.name = REFUSALS[number - 1]
+        self.name = REFUSALS[number]
         super().__init__(f"number {number} ({self.name})")
 
 

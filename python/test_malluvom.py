@@ -82,6 +82,33 @@ class Calls(unittest.TestCase):
             end = malluvom.record(buffer, used, 4, b"")
             self.assertEqual(answer(bytes(buffer[:end])), expected)
 
+    def test_set_crash(self):
+        buffer = bytearray(malluvom.LOG_MOST)
+        # Two machines, of which 2 is persistent; L0 is 1's. LStore by 2 to L0 of 5.
+        used = malluvom.record(buffer, 0, 1, b"\x02\x02")
+        used = malluvom.record(buffer, used, 2, b"\x01")
+        used = malluvom.record(buffer, used, 3, b"\x01\x02\0\x05\0")
+        for number, payload in (
+            (11, b"\x0b\x01\0\0\0"),
+            (15, b"\x0b\0\0\x01\0"),
+            (15, b"\x0b\0\x02\0\0"),
+            (15, b"\x0b\0\x07\0\0"),
+            (11, b"\x0b\0\x03\0\x01"),
+            (8, b"\x0c\0\x03\0\0"),
+        ):
+            self.refused(number, malluvom.record, buffer, used, 3, payload)
+        self.refused(8, malluvom.record, buffer, used, 5, b"\x0b\0\x03\0\0\0\0")
+        # Between two crashes the copy may move to machine 1; in one step of both it is lost. Then Load by 2 of L0, 5.
+        for crashes, expected in (
+            ((b"\x07\x01\0\0\0", b"\x07\x02\0\0\0"), "allowed 1"),
+            ((b"\x0b\0\x03\0\0",), "impossible 3"),
+        ):
+            end = used
+            for payload in crashes + (b"\x04\x02\0\x05\0",):
+                end = malluvom.record(buffer, end, 3, payload)
+            end = malluvom.record(buffer, end, 4, b"")
+            self.assertEqual(answer(bytes(buffer[:end])), expected)
+
     def test_the_longest_log(self):
         log = bytes.fromhex("0102000600") + bytes.fromhex("02010006") * 32
         log += bytes.fromhex("0507000901000000 0000") * 128 + bytes.fromhex("040000")
@@ -106,7 +133,8 @@ class Calls(unittest.TestCase):
         self.assertFalse(any(scratch))
 
     def test_names(self):
-        self.assertEqual((malluvom.Refused(1).name, malluvom.Refused(13).name), ("BufferTooShort", "BadSchedule"))
+        names = [malluvom.Refused(number).name for number in (1, 13, 15)]
+        self.assertEqual(names, ["BufferTooShort", "BadSchedule", "BadMachineSet"])
 
 
 def load_tests(loader, tests, pattern):
