@@ -1,9 +1,8 @@
 //! The kinds of logs, each from a seed of its own.
 
 use corpus::encode::field;
-use corpus::{
-    change_one_load, damage, encode, litmus, near_set_crash, plausible, random_log, set_crash, Random, Shape,
-};
+use corpus::{change_one_load, crash, damage, encode, litmus, near_set_crash, plausible};
+use corpus::{power_loss, random_log, set_crash, Random, Shape};
 use second::{Event, Log, Operation};
 
 use crate::report::Report;
@@ -12,16 +11,21 @@ use crate::trial;
 /// A kind of logs, how many there are in one round, and how one is made.
 type Kind = (&'static str, usize, fn(&mut Random) -> Vec<u8>);
 
-const KINDS: [Kind; 6] = [
+const KINDS: [Kind; 7] = [
     ("1 plausible, by simulating the system", 50_000, simulated),
     ("2 plausible with one load changed", 60_000, changed),
     ("3 random", 50_000, any),
     ("4 near the limits", 20_000, limit),
     ("5 bytes damaged at random", 50_000, damaged),
     ("6 like litmus tests, the last read of any value", 150_000, |random| encode(&litmus(random))),
+    ("7 like litmus tests, the holders crash with the owner", 50_000, |random| encode(&power_loss(random))),
 ];
 
-const SMALL: &str = "7 every log of three events or fewer, two machines, one location, two values";
+const SMALL: &str = "8 every log of three events or fewer, two machines, one location, two values";
+
+/// At least so many accepted logs of each kind have a read-modify-write, and at least so many a set crash: what is not made
+/// is not compared.
+const LEAST: usize = 1000;
 
 /// Compares all logs of each kind; each round takes other seeds. The small logs are not random and come once.
 pub fn run(round: u64, report: &mut Report) {
@@ -36,6 +40,7 @@ pub fn run(round: u64, report: &mut Report) {
         let mut random = Random::new(KINDS.len() as u64);
         small(|log| trial::compare(SMALL, log, &mut random, report));
     }
+    report.ask_made(LEAST);
 }
 
 fn simulated(random: &mut Random) -> Vec<u8> {
@@ -111,10 +116,6 @@ fn limit(random: &mut Random) -> Vec<u8> {
         6 => long_schedule(random),
         _ => wrong_length(random, &shape),
     }
-}
-
-fn crash(machine: u8) -> Event {
-    Event { operation: Operation::Crash, machine, location: 0, value: 0, written: 0 }
 }
 
 /// One event whose bytes are at the edge of what the head allows; now and then the tag or the length is that of the

@@ -47,6 +47,19 @@ impl Report {
         }
     }
 
+    /// Notes each kind with fewer accepted logs than this that have a read-modify-write, or a set crash. A comparison that
+    /// stopped has not made all.
+    pub fn ask_made(&mut self, least: usize) {
+        if self.is_hopeless() {
+            return;
+        }
+        let few = |verdicts: &Verdicts| verdicts.with_rmw.min(verdicts.with_set_crash) < least;
+        let kinds: Vec<_> = self.kinds.iter().filter(|(_, verdicts)| few(verdicts)).map(|(&kind, _)| kind).collect();
+        for kind in kinds {
+            self.differ("too few with read-modify-writes or set crashes", &[], kind);
+        }
+    }
+
     /// Whether so much differs that the comparison may stop.
     pub fn is_hopeless(&self) -> bool {
         self.differences >= ENOUGH

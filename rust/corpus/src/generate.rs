@@ -130,12 +130,16 @@ impl Shape {
     /// A crash of the machine alone or with others. A shape without set crashes takes no random number for them: so the
     /// benchmark's logs are the same as before there were any.
     fn crash(&self, random: &mut Random, machine: u8) -> Event {
-        let alone = Event { operation: Operation::Crash, machine, location: 0, value: 0, written: 0 };
         if self.set_crashes == 0 || self.machines == 1 || !random.percent(self.set_crashes) {
-            return alone;
+            return crash(machine);
         }
         set_crash(set_with(random, machine, self.machines as u8))
     }
+}
+
+/// A crash of one machine.
+pub fn crash(machine: u8) -> Event {
+    Event { operation: Operation::Crash, machine, location: 0, value: 0, written: 0 }
 }
 
 /// A crash of a set of machines, with bit i - 1 for machine i.
@@ -240,6 +244,44 @@ pub fn litmus(random: &mut Random) -> Log {
         last.written = random.below(shape.values) as u16;
     }
     log.events.push(last);
+    log
+}
+
+/// A log like a litmus test for set crashes: after a short run a value is stored and loaded, most often only by machines
+/// that then crash together with the owner, in one step or now and then in a row; and then a load of it or of 0. What
+/// could move between crashes in a row decides.
+pub fn power_loss(random: &mut Random) -> Log {
+    let shape = Shape {
+        machines: random.between(2, 4),
+        locations: random.between(1, 2),
+        events: random.below(5),
+        crashes: 25,
+        set_crashes: 50,
+        values: 3,
+        operations: some_operations(random, 20),
+    };
+    let mut log = plausible(random, &shape);
+    let location = random.below(shape.locations) as u8;
+    let value = shape.values as u16;
+    let event = |operation, machine, value| Event { operation, machine, location, value, written: 0 };
+    let set = set_with(random, log.owners[usize::from(location)], log.machines);
+    let mut members: Vec<u8> = (1..=log.machines).filter(|machine| set & 1 << (machine - 1) != 0).collect();
+    let store = if random.percent(80) { Operation::LStore } else { Operation::RStore };
+    log.events.push(event(store, *random.pick(&members), value));
+    for machine in 1..=log.machines {
+        if random.percent(if members.contains(&machine) { 30 } else { 5 }) {
+            log.events.push(event(Operation::Load, machine, value));
+        }
+    }
+    if random.percent(75) {
+        log.events.push(set_crash(set));
+    } else {
+        while !members.is_empty() {
+            log.events.push(crash(members.swap_remove(random.below(members.len()))));
+        }
+    }
+    let last = random.between(1, shape.machines) as u8;
+    log.events.push(event(Operation::Load, last, *random.pick(&[value, 0])));
     log
 }
 
