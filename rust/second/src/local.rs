@@ -41,10 +41,10 @@ impl Local {
     /// The state after a crash of these machines, all in one step.
     pub(crate) fn crash(&self, crashed: u8, owner: u8, log: &Log) -> Local {
         let mut next = *self;
-        let mut lost = self.holders & crashed;
-        while lost != 0 {
-            next = next.without_copy(lost.trailing_zeros() as u8 + 1);
-            lost &= lost - 1;
+        let mut left = crashed;
+        while left != 0 {
+            next = next.without_copy(left.trailing_zeros() as u8 + 1);
+            left &= left - 1;
         }
         if crashed >> (owner - 1) & 1 == 1 && !log.is_persistent(owner) {
             next.memory = 0;
