@@ -82,7 +82,7 @@ fn the_requests_example_both_ways() {
     }
 }
 
-/// Who loses what, for every set of three machines: each machine has a copy, and the memory holds the value too or not.
+/// Who loses what, for every set of three machines: of copies that all hold, and of a value in memory.
 #[test]
 fn the_machines_of_the_set_lose_their_copies_and_no_others() {
     for set in [0b011, 0b101, 0b110, 0b111] {
