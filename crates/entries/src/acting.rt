@@ -91,7 +91,12 @@ impl Entry {
             5 => acted(held & mine == 0, held, copy, memory),
             6 => acted(held == 0, held, copy, memory),
             // a crash
-            7 => acted(true, held & !mine, copy, site.left(site.owner.is(e.machine), memory)),
+            7 => acted(
+                true,
+                held & !mine,
+                copy,
+                site.left(site.owner.is(e.machine), memory),
+            ),
             // L-RMW, R-RMW, M-RMW: the load of v, and at once the store
             8 => acted(self.reads(v), mine, e.written, memory),
             9 => acted(self.reads(v), bit(site.owner), e.written, memory),

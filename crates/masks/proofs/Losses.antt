@@ -52,13 +52,13 @@ kept (suc n) d t j =
           let stays = and-l (not gone) (has j t) both in
           let lacks : j ≤ suc n → T (not (has j d)) =
           λ l.
-              by-test (eqb j (suc n))
-              (λ e.
-              let same = eqb→eq j (suc n) e in
-              by-test (has j d)
-              (λ in-d. absurd (T-not gone stays (and-i (has (suc n) d) (eqb j (suc n)) (rw same at in-d) e)))
-              (λ out. out))
-              (λ e. let other = ne-test j (suc n) e in k .1 (omega arith)) in
+          by-test (eqb j (suc n))
+          (λ e.
+          let same = eqb→eq j (suc n) e in
+          by-test (has j d)
+          (λ in-d. absurd (T-not gone stays (and-i (has (suc n) d) (eqb j (suc n)) (rw same at in-d) e)))
+          (λ out. out))
+          (λ e. let other = ne-test j (suc n) e in k .1 (omega arith)) in
           (and-r (not gone) (has j t) both, lacks),
       λ k.
           let stays : T (not gone) =

@@ -87,7 +87,7 @@ remove-all-and (suc w) d c h l =
     let e : (2 ^ suc w - 1 - d) / 2 ≡ 2 ^ w - 1 - d / 2 = omega arith in
     let o : (2 ^ suc w - 1 - d) % 2 ≡ 1 - d % 2 = omega arith in
     let r = remove-all-and w (d / 2) (c / 2) (omega arith) (omega arith) in
-    rw (and-step c (2 ^ suc w - 1 - d), e, o, ← r) 
+    rw (and-step c (2 ^ suc w - 1 - d), e, o, ← r)
     (by-parts (removeAll d c) (all-high d c) (all-low d c ∙ kept-bit (c % 2) (d % 2) (omega arith) (omega arith)))
 
 -- A machine above those of the set is not in it.

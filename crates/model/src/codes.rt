@@ -1,7 +1,7 @@
 // Machines in a byte: bit i - 1 of a code stands for machine i.
 ghost use mathlib.Core.Path.{_≡_};
 ghost use Prim.Native.Nat.{_%_, _^_};
-ghost use lib.Dec.{eqb};
+ghost use lib.Dec.{ltb, eqb};
 ghost use Rattle.model.specs.Sharers.{insert};
 use super::Machine;
 
@@ -24,6 +24,13 @@ pub fn bit(i: Machine) -> u8
         1..=8 => 1 << (n - 1),
         _ => 0,
     }
+}
+
+// No machine above n is in the set of code c.
+pub fn none_above(n: u8, c: u8) -> bool
+    ensures { λ r. ⌜ r ≡ ltb c (2 ^ n) ⌝ }
+{
+    if n < 8 { c < 1 << n } else { true }
 }
 
 // The machines 1 to n of a code.

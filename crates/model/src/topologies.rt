@@ -10,7 +10,7 @@ use super::MACHINES;
 use super::Machine;
 use super::Topology;
 use super::codes::bit;
-use super::codes::up_to;
+use super::codes::none_above;
 
 impl Topology {
     // Each location is owned by one of the machines.
@@ -53,7 +53,7 @@ impl Topology {
     pub fn are_machines(self, set: u8) -> bool
         ensures { λ r. ⌜ r ≡ named (topologyOf self) (event (SetCrash set)) ⌝ }
     {
-        up_to(self.machines, set) == set
+        none_above(self.machines, set)
     }
 
     pub fn is_location(self, x: Location) -> bool

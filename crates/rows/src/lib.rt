@@ -301,7 +301,12 @@ pub fn row_before(site: Site, e: Event, u: u32, rest: Row) -> Row
         10 => m_rmw_row(rest, u, e.value, e.written),
         11 => {
             let set = e.location.0;
-            set_crash_row(rest, set, holds(set, site.owner) & site.volatile, site.initial)
+            set_crash_row(
+                rest,
+                set,
+                holds(set, site.owner) & site.volatile,
+                site.initial,
+            )
         }
         0 => rest,
         12..=255 => rest,

@@ -2,21 +2,21 @@
 use Prim.Native.Nat.{_^_, _≤_}
 use native.Mathlib.Omega.{arith}
 use mathlib.Core.Path.{sym}
-use lib.Pow.{pow-mono}
 use borrow.Author.Needs.{needs}
 use borrow.Author.Tests.{lt-ltb}
-use Rattle.log.proofs.Members.{bit-above}
-use Rattle.log.proofs.sets.none_above.Statement.{statement}
-use Rattle.log.proofs.sets.none_above.Tie as tie
+use lib.Pow.{pow-mono}
+use Rattle.model.proofs.Bits.{shift-byte}
+use Rattle.model.proofs.codes.none_above.Statement.{statement}
+use Rattle.model.proofs.codes.none_above.Tie as tie
 
 returns : tie.Need-returns
-returns c = rw (bit-above (c .before .args .machines) (omega arith))
+returns c = rw (shift-byte (c .before .args .n) (omega arith))
 
 returns-2 : tie.Need-returns-2
 returns-2 c =
     let a = c .before .args in
-    let eight : 8 ≤ a .machines = omega arith in
-    sym (lt-ltb (a .set) (2 ^ (a .machines)) (omega (arith, pow-mono eight)))
+    let eight : 8 ≤ a .n = omega arith in
+    sym (lt-ltb (a .c) (2 ^ (a .n)) (omega (arith, pow-mono eight)))
 
 pub none-above-spec : {M : Type 1} → statement M
 none-above-spec = tie.close (tie.spec (λ c. search needs) returns returns-2)
