@@ -1,9 +1,9 @@
 // What each action makes of the entry of its location. Names that the system does not have are for the state
 // to refuse; the equations hold for them too.
 ghost use mathlib.Core.Path.{_≡_};
-ghost use mathlib.Core.Bool.{cond, _&&_};
-ghost use Rattle.model.specs.Cxl0.{silent, Propagate, WriteBack};
-ghost use Rattle.model.specs.OneLocation.{readableAt};
+ghost use mathlib.Core.Bool.{cond};
+ghost use Rattle.model.specs.Cxl0.{Crash, SetCrash, silent, Propagate, WriteBack};
+ghost use Rattle.model.specs.OneLocation.{clearsSite, readableAt};
 ghost use Rattle.entries.specs.Entries.{siteMeant, shortOf, maskedTo, actedOf, actedBy};
 use super::Acted;
 use super::Entry;
@@ -29,11 +29,24 @@ fn acted(enabled: bool, sharers: u8, copy: u32, memory: u32) -> Acted
 }
 
 impl Site {
-    // What a crash leaves of memory value m: the initial value, if the owner crashes and its memory is volatile.
-    fn left(self, crashed: bool, m: u32) -> u32
-        ensures { λ r. ⌜ r ≡ cond (crashed && self .volatile) (self .initial) m ⌝ }
+    // What a crash of machine i leaves of memory value m: the initial value, if i is the owner and its memory is
+    // volatile.
+    fn left(self, i: Machine, m: u32) -> u32
+        ensures { λ r. ⌜ r ≡ cond (clearsSite (Crash (i .0)) (siteMeant self)) (self .initial) m ⌝ }
     {
-        if crashed & self.volatile {
+        if self.owner.is(i) & self.volatile {
+            self.initial
+        } else {
+            m
+        }
+    }
+
+    // So for a crash of the machines of a set, if the owner is one of them.
+    fn left_by_set(self, set: u8, m: u32) -> u32
+        ensures { λ r. ⌜ r ≡ cond (clearsSite (SetCrash set) (siteMeant self)) (self .initial) m ⌝ }
+    {
+        let owned = set & bit(self.owner) != 0;
+        if owned & self.volatile {
             self.initial
         } else {
             m
@@ -74,6 +87,8 @@ impl Entry {
         let copy = self.copy;
         let memory = self.memory;
         let mine = bit(e.machine);
+        // in place of the location
+        let set = e.location.0;
         let v = e.value;
         let operation = e.operation;
         match operation {
@@ -91,22 +106,13 @@ impl Entry {
             5 => acted(held & mine == 0, held, copy, memory),
             6 => acted(held == 0, held, copy, memory),
             // a crash
-            7 => acted(
-                true,
-                held & !mine,
-                copy,
-                site.left(site.owner.is(e.machine), memory),
-            ),
+            7 => acted(true, held & !mine, copy, site.left(e.machine, memory)),
             // L-RMW, R-RMW, M-RMW: the load of v, and at once the store
             8 => acted(self.reads(v), mine, e.written, memory),
             9 => acted(self.reads(v), bit(site.owner), e.written, memory),
             10 => acted(self.reads(v), 0, copy, e.written),
-            // a set crash, its set in place of the location
-            11 => {
-                let set = e.location.0;
-                let lost = set & bit(site.owner) != 0;
-                acted(true, held & !set, copy, site.left(lost, memory))
-            }
+            // a set crash
+            11 => acted(true, held & !set, copy, site.left_by_set(set, memory)),
             0 => acted(false, held, copy, memory),
             12..=255 => acted(false, held, copy, memory),
         }

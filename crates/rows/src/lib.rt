@@ -3,9 +3,9 @@
 //
 // Internal: only crates of this project call it, and they meet what it requires. A machine's number is 1
 // to 6, a code is below 64, `rest` is closed, and an event is known: its operation is 1 LStore, 2 RStore, 3 MStore,
-// 4 Load, 5 LFlush, 6 RFlush, 7 crash, 8 L-RMW, 9 R-RMW, 10 M-RMW or 11 set crash, its set in place of the location. The
-// reader has refused every other number, so that no event comes to the arms of these, and any value will do there: it is
-// one that takes no test of its own.
+// 4 Load, 5 LFlush, 6 RFlush, 7 crash, 8 L-RMW, 9 R-RMW, 10 M-RMW or 11 set crash, its set in place of the location.
+// The reader has refused every other number, so that no event comes to the arms of these, and any value will do there:
+// it is one that takes no test of its own.
 use entries::Site;
 use masks::all;
 use masks::all_but_empty;
@@ -301,12 +301,8 @@ pub fn row_before(site: Site, e: Event, u: u32, rest: Row) -> Row
         10 => m_rmw_row(rest, u, e.value, e.written),
         11 => {
             let set = e.location.0;
-            set_crash_row(
-                rest,
-                set,
-                holds(set, site.owner) & site.volatile,
-                site.initial,
-            )
+            let cleared = holds(set, site.owner) & site.volatile;
+            set_crash_row(rest, set, cleared, site.initial)
         }
         0 => rest,
         12..=255 => rest,

@@ -13,7 +13,8 @@ use lib.Seq.{ext-getD}
 use Rattle.model.specs.Cxl0.{Location, isMachine, isLocation, initial, clears}
 use Rattle.model.specs.Cxl0.{Event, Crash, SetCrash, Propagate, WriteBack}
 use Rattle.model.specs.Cxl0.{Action, event, silent, named, enabled, possible, next}
-use Rattle.model.specs.OneLocation.{Local, expand, concerns, silentAt, eventAt, locationOf, siteOf, crashedAt, effect, nextAt}
+use Rattle.model.specs.OneLocation.{Local, expand, concerns, silentAt, eventAt, locationOf, siteOf}
+use Rattle.model.specs.OneLocation.{crashedAt, effect, nextAt}
 use Rattle.model.specs.Meaning.{topologyOf, withinLimits, attempt}
 use Rattle.model.specs.declared.Topology as topology
 use Rattle.entries.specs.Entries.{shortOf, maskedTo, emptyEntry}

@@ -1,17 +1,14 @@
 -- `act` meets its contract: each operation number is that of its event, and any other is refused.
-use Prim.Native.Nat.{ℕ, _<_}
+use Prim.Native.Nat.{_<_}
 use native.Mathlib.Omega.{arith}
-use mathlib.Core.Path.{_≡_, refl, ap, _∙_}
-use mathlib.Core.Bool.{Bool, cond, _&&_}
+use mathlib.Core.Path.{refl, _∙_}
 use borrow.Author.Tests.{eq-eqb, ne-eqb}
-use Rattle.model.specs.Cxl0.{crashes}
 use Rattle.model.specs.Operations.{isOperation, eventOf}
 use Rattle.model.specs.OneLocation.{enabledAt, effect}
 use Rattle.model.proofs.Tests.{nothing}
-use Rattle.model.proofs.Bits.{free-byte, has-byte, insert-byte}
+use Rattle.model.proofs.Bits.{free-byte, insert-byte}
 use Rattle.model.proofs.Operations.{no-operation}
 use Rattle.entries.specs.Entries.{shortOf, entryOf, actedOf, actedBy}
-use Rattle.entries.specs.declared.Site as site
 use Rattle.entries.proofs.Effects.{same-entry, same-acted, entry-same, lost-byte, lost-all-byte}
 use Rattle.entries.proofs.Entry.act.Statement.{statement}
 use Rattle.entries.proofs.Entry.act.Tie as tie
@@ -21,11 +18,6 @@ byte c = omega arith
 
 set-byte : (c : tie.Start) → c .args .e .location .0 < 256
 set-byte c = omega arith
-
--- What is left of memory depends on whether the owner crashes.
-cleared : (s : site.Site) (m : ℕ) {b d : Bool} → b ≡ d
-    → cond (b && s .volatile) (s .initial) m ≡ cond (d && s .volatile) (s .initial) m
-cleared s m e = ap (λ b. cond (b && s .volatile) (s .initial) m) e
 
 returns : tie.Need-returns
 unfolding isOperation eventOf enabledAt effect shortOf entryOf actedOf actedBy
@@ -76,14 +68,13 @@ returns-7 c =
     rw (c .before .match .keys6) (c .acted7 .ensures ∙ same-acted refl (entry-same (start .args .self) (byte start)))
 
 returns-8 : tie.Need-returns-8
-unfolding isOperation eventOf enabledAt effect shortOf entryOf actedOf actedBy crashes
+unfolding isOperation eventOf enabledAt effect shortOf entryOf actedOf actedBy
 returns-8 c =
-    let arm = c .before .before .before in
-    let mine = arm .before in
+    let mine = c .before .before .before in
     let a = mine .before .args in
     let lost = lost-byte (a .e .machine .0) (a .self .sharers) _ (mine .bit .ensures) (byte (mine .before)) in
-    let left = c .before .left .ensures ∙ cleared (a .site) (a .self .memory) (c .before .before .is .ensures) in
-    rw (arm .match .keys7) (c .acted8 .ensures ∙ same-acted refl (same-entry lost left))
+    rw (c .before .before .match .keys7)
+    (c .acted8 .ensures ∙ same-acted refl (same-entry lost (c .before .left .ensures)))
 
 returns-9 : tie.Need-returns-9
 unfolding isOperation eventOf enabledAt effect shortOf entryOf actedOf actedBy
@@ -106,17 +97,13 @@ returns-11 c =
     rw (c .before .before .match .keys10) (c .acted11 .ensures ∙ same-acted (c .before .reads3 .ensures) refl)
 
 returns-12 : tie.Need-returns-12
-unfolding isOperation eventOf enabledAt effect shortOf entryOf actedOf actedBy crashes
+unfolding isOperation eventOf enabledAt effect shortOf entryOf actedOf actedBy
 returns-12 c =
-    let owners = c .before .before in
-    let arm = owners .before in
-    let start = arm .before .before in
-    let a = start .args in
-    let set = a .e .location .0 in
-    let lost = lost-all-byte set (a .self .sharers) (byte start) (set-byte start) in
-    let member = has-byte (a .site .owner .0) set _ (owners .bit4 .ensures) (set-byte start) in
-    let left = c .before .left2 .ensures ∙ cleared (a .site) (a .self .memory) member in
-    rw (arm .match .keys11) (c .acted12 .ensures ∙ same-acted refl (same-entry lost left))
+    let mine = c .before .before .before in
+    let a = mine .before .args in
+    let lost = lost-all-byte (a .e .location .0) (a .self .sharers) (byte (mine .before)) (set-byte (mine .before)) in
+    rw (c .before .before .match .keys11)
+    (c .acted12 .ensures ∙ same-acted refl (same-entry lost (c .before .left-by-set .ensures)))
 
 returns-13 : tie.Need-returns-13
 unfolding isOperation actedBy
@@ -132,8 +119,6 @@ pub act-spec : {M : Type 1} → statement M
 act-spec =
     tie.close
     (tie.spec
-    nothing
-    nothing
     nothing
     nothing
     nothing

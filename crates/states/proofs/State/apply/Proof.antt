@@ -1,5 +1,5 @@
--- `apply` meets its contract: a crash is `crash` or `set_crash`, any other event is of one location, and a number that is
--- no operation's is refused.
+-- `apply` meets its contract: a crash is `crash` or `set_crash`, any other event is of one location, and a number that
+-- is no operation's is refused.
 use mathlib.Core.Path.{_≡_}
 use lib.ListN.{length}
 use Rattle.model.specs.Operations.{isOperation, eventOf}
