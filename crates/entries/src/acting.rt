@@ -87,20 +87,22 @@ impl Entry {
         let copy = self.copy;
         let memory = self.memory;
         let mine = bit(e.machine);
+        let owners = bit(site.owner);
         // in place of the location
         let set = e.location.0;
         let v = e.value;
+        let reads = self.reads(v);
         let operation = e.operation;
         match operation {
             // LStore, RStore, MStore
             1 => acted(true, mine, v, memory),
-            2 => acted(true, bit(site.owner), v, memory),
+            2 => acted(true, owners, v, memory),
             3 => acted(true, 0, copy, v),
             // Load, from memory if there is no copy, and then it leaves none
             4 => if held == 0 {
-                acted(memory == v, 0, copy, memory)
+                acted(reads, 0, copy, memory)
             } else {
-                acted(copy == v, held | mine, copy, memory)
+                acted(reads, held | mine, copy, memory)
             },
             // LFlush, RFlush
             5 => acted(held & mine == 0, held, copy, memory),
@@ -108,9 +110,9 @@ impl Entry {
             // a crash
             7 => acted(true, held & !mine, copy, site.left(e.machine, memory)),
             // L-RMW, R-RMW, M-RMW: the load of v, and at once the store
-            8 => acted(self.reads(v), mine, e.written, memory),
-            9 => acted(self.reads(v), bit(site.owner), e.written, memory),
-            10 => acted(self.reads(v), 0, copy, e.written),
+            8 => acted(reads, mine, e.written, memory),
+            9 => acted(reads, owners, e.written, memory),
+            10 => acted(reads, 0, copy, e.written),
             // a set crash
             11 => acted(true, held & !set, copy, site.left_by_set(set, memory)),
             0 => acted(false, held, copy, memory),

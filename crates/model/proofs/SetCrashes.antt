@@ -1,13 +1,13 @@
 -- A set crash is the row of its single crashes, in any order, with nothing between them; copies that move between
 -- single crashes are what it rules out. And a crash of all machines leaves every cache empty.
-use Prim.Native.Nat.{ℕ, _^_, _≤_}
+use Prim.Native.Nat.{_^_}
 use mathlib.Core.Path.{_≡_, refl, sym, ap, _∙_, subst}
 use mathlib.Core.Logic.{_↔_, ⊎-elim}
 use mathlib.Core.Bool.{Bool, true, false, cond, not, _&&_, _||_, and-true}
 use mathlib.Core.List.{List, [], _∷_, _++_, map}
-use mathlib.Core.Option.{Option, none}
+use mathlib.Core.Option.{none}
 use lib.Dec.{T, leb, ltb, eqb, eqb→eq, eqb-refl, le→leb, ltb→lt, lt→ltb}
-use Rattle.model.specs.Cxl0.{Machine, Location, Value, MachineSet, Topology, State, isMachine, start}
+use Rattle.model.specs.Cxl0.{Machine, Location, MachineSet, Topology, State, isMachine, start}
 use Rattle.model.specs.Cxl0.{everyMachine, holds, cached, crashes, clears, crashed, owner, initial}
 use Rattle.model.specs.Cxl0.{Event, Crash, SetCrash, Action, event, named, enabled, possible, next}
 use Rattle.model.specs.Cxl0.{allNamed, runs, after, events, Run, HasRun}

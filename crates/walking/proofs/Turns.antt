@@ -10,7 +10,6 @@ use Rattle.model.specs.Cxl0.{Event}
 use Rattle.model.specs.Schedule.{steps}
 use Rattle.model.specs.OneLocation.{eventAt, concerns, possibleAt, nextAt, HasRunAt}
 use Rattle.model.proofs.Tests.{not→false}
-use Rattle.masks.specs.Sets.{OneToSix}
 use Rattle.rows.specs.declared.Row.{Row}
 use Rattle.entries.specs.Entries.{siteMeant}
 use Rattle.entries.specs.declared.Acted.{Acted}
