@@ -270,13 +270,13 @@ pub fn concerned(site: Site, e: Event) -> bool
     requires { ⌜ Known e ⌝ }
     ensures { λ r. ⌜ r ≡ eventAt (site .location .0) (meant e) ⌝ }
 {
+    if site.location.0 == e.location.0 {
+        return true;
+    }
     if e.operation == 7 {
         return true;
     }
-    if e.operation == 11 {
-        return true;
-    }
-    site.location.0 == e.location.0
+    e.operation == 11
 }
 
 // The row before an event, without the silent steps before it, when copies have the value u before it.
