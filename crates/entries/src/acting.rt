@@ -45,12 +45,8 @@ impl Site {
     fn left_by_set(self, set: u8, m: u32) -> u32
         ensures { λ r. ⌜ r ≡ cond (clearsSite (SetCrash set) (siteMeant self)) (self .initial) m ⌝ }
     {
-        let owned = set & bit(self.owner) != 0;
-        if owned & self.volatile {
-            self.initial
-        } else {
-            m
-        }
+        let cleared = (set & bit(self.owner) != 0) & self.volatile;
+        if cleared { self.initial } else { m }
     }
 }
 

@@ -29,7 +29,7 @@ pub struct Topology {
 }
 
 // An event by its operation number; what the operation does not use is ignored. `value` is what was stored or read,
-// `written` what a read-modify-write stored after its read.
+// `written` what a read-modify-write stored after its read. A set crash has its set in `location`, as in the bytes.
 pub struct Event {
     pub operation: u8,
     pub machine: Machine,

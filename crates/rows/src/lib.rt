@@ -265,7 +265,8 @@ pub fn gap_row(owner: Machine, u: u32, inner: Row) -> Row
     }
 }
 
-// The event is one of the site's location, or a crash.
+// The event is one of the site's location, or a crash. Of a crash it is right whatever byte stands for the location, so
+// that this is asked first, as it is true of most events.
 pub fn concerned(site: Site, e: Event) -> bool
     requires { ⌜ Known e ⌝ }
     ensures { λ r. ⌜ r ≡ eventAt (site .location .0) (meant e) ⌝ }
