@@ -43,8 +43,8 @@ pub const LOG: usize = WAYPOINTS + MOST;
 
 pub const HEADS: usize = LOG + 2 * MOST;
 
-// The first word of an event has a byte for each of operation, machine, location or set, its index in the log, the index
-// of the next event of its location, and that of the next crash, from the lowest on: what a byte counts in it.
+// The first word of an event has a byte for each of operation, machine, location or set, its index in the log, the
+// index of the next event of its location, and that of the next crash, from the lowest on: what a byte counts in it.
 pub const MACHINE: u64 = 256;
 
 pub const LOCATION: u64 = 256 * MACHINE;
