@@ -1,26 +1,73 @@
 -- A set crash is the row of its single crashes, in any order, with nothing between them; copies that move between
 -- single crashes are what it rules out. And a crash of all machines leaves every cache empty.
-use Prim.Native.Nat.{_^_}
+use Prim.Native.Nat.{ℕ, zero, suc, _^_, _≤_}
+use native.Mathlib.Omega.{arith}
 use mathlib.Core.Path.{_≡_, refl, sym, ap, _∙_, subst}
 use mathlib.Core.Logic.{_↔_, ⊎-elim}
 use mathlib.Core.Bool.{Bool, true, false, cond, not, _&&_, _||_, and-true}
 use mathlib.Core.List.{List, [], _∷_, _++_, map}
 use mathlib.Core.Option.{none}
-use lib.Dec.{T, leb, ltb, eqb, eqb→eq, eqb-refl, le→leb, ltb→lt, lt→ltb}
+use lib.Dec.{T, T-not, leb, ltb, eqb, eqb→eq, eqb-refl, le→leb, ltb→lt, lt→ltb}
 use Rattle.model.specs.Cxl0.{Machine, Location, MachineSet, Topology, State, isMachine, start}
 use Rattle.model.specs.Cxl0.{everyMachine, holds, cached, crashes, clears, crashed, owner, initial}
 use Rattle.model.specs.Cxl0.{Event, Crash, SetCrash, Action, event, named, enabled, possible, next}
 use Rattle.model.specs.Cxl0.{allNamed, runs, after, events, Run, HasRun}
 use Rattle.model.specs.Sharers.{has}
 use Rattle.model.specs.Goes.{Goes, isIn, Lists, crashRow}
-use Rattle.model.proofs.Tests.{T→true, same-test, and-i, and-l, and-r, or-l, or-r, or-cases}
+use Rattle.model.proofs.Tests.{by-test, T→true, same-test, and-i, and-l, and-r, or-l, or-r, or-cases, ne-test}
 use Rattle.model.proofs.Machines.{every-e, none-i}
 use Rattle.model.proofs.Sharers.{has-bound, members-bound}
-use Rattle.model.proofs.Expand.{machine-bounds}
+use Rattle.model.proofs.Expand.{machine-bounds, branch}
 use Rattle.model.proofs.Goes.{after-append, runs-append, in-turn, parts, first}
 
 abbrev row : List Machine → List Action
 row is = map event (crashRow is)
+
+-- ---- the machines of a set
+
+-- Those of machines 1 to n that are in the set, from the last on.
+abbrev listed : ℕ → MachineSet → List Machine
+listed zero set = []
+listed (suc n) set = cond (has (suc n) set) (suc n ∷ listed n set) (listed n set)
+
+listed-has : (n : ℕ) (set : MachineSet) (j : Machine) → T (isIn j (listed n set)) → T (has j set)
+unfolding isIn
+listed-has zero set j t = absurd t
+listed-has (suc n) set j t =
+    branch (λ is. T (isIn j is) → T (has j set)) (has (suc n) set) (suc n ∷ listed n set) (listed n set)
+    (λ in-set u.
+    ⊎-elim (λ e. rw (eqb→eq j (suc n) e) in-set) (listed-has n set j)
+    (or-cases (eqb j (suc n)) (isIn j (listed n set)) u))
+    (λ out u. listed-has n set j u)
+    t
+
+has-listed : (n : ℕ) (set : MachineSet) (j : Machine) → 1 ≤ j → j ≤ n → T (has j set) → T (isIn j (listed n set))
+unfolding isIn
+has-listed zero set j l h t = absurd (omega arith)
+has-listed (suc n) set j l h t =
+    branch (λ is. T (isIn j is)) (has (suc n) set) (suc n ∷ listed n set) (listed n set)
+    (λ in-set.
+    by-test (eqb j (suc n))
+    (λ e. or-l (eqb j (suc n)) (isIn j (listed n set)) e)
+    (λ e.
+    let other = ne-test j (suc n) e in
+    or-r (eqb j (suc n)) (isIn j (listed n set)) (has-listed n set j l (omega arith) t)))
+    (λ out.
+    by-test (eqb j (suc n))
+    (λ e. absurd (T-not (has (suc n) set) out (rw (eqb→eq j (suc n) e) at t)))
+    (λ e. let other = ne-test j (suc n) e in has-listed n set j l (omega arith) t))
+
+-- Every set of machines of the system has a list of them.
+pub some-list : (sys : Topology) (set : MachineSet) → T (named sys (event (SetCrash set)))
+    → (is : List Machine) × Lists set is
+unfolding named
+some-list sys set names =
+    let n = sys .machines in (
+      listed n set,
+      λ j. same-test (has j set) (isIn j (listed n set))
+          (λ t. let b = has-bound n j set (ltb→lt set (2 ^ n) names) t in has-listed n set j (b .0) (b .1) t)
+          (listed-has n set j),
+    )
 
 -- ---- the state after a row of crashes
 

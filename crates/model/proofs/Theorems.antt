@@ -10,7 +10,7 @@ use lib.Dec.{T}
 use lib.ListN.{length, take}
 use Rattle.model.specs.Cxl0.{Machine, Location, Value, MachineSet, Topology, WellFormed, isLocation, owner}
 use Rattle.model.specs.Cxl0.{State, start, everyMachine, cached, Form, Load, RMW, SetCrash, Event, Action, event}
-use Rattle.model.specs.Cxl0.{next, allNamed, Run, HasRun, after, events, silents, count, isStore, isLoad}
+use Rattle.model.specs.Cxl0.{next, named, allNamed, Run, HasRun, after, events, silents, count, isStore, isLoad}
 use Rattle.model.specs.Schedule.{Step, weave, schedule, inOrder}
 use Rattle.model.specs.OneLocation.{Local, startAt, runsAt, HasRunAt, Moves, Silently}
 use Rattle.model.specs.Sharers.{has}
@@ -119,6 +119,11 @@ pub set-crash-after : (sys : Topology) (set : MachineSet) (is : List Machine) �
     → (acts : List Action) (s : State)
     → after sys (event (SetCrash set) ∷ acts) s ≡ after sys (map event (crashRow is) ++ acts) s
 set-crash-after = SetCrashes.after-set
+
+-- There is such a row for every set of machines of the system.
+pub set-crash-row : (sys : Topology) (set : MachineSet) → T (named sys (event (SetCrash set)))
+    → (is : List Machine) × Lists set is
+set-crash-row = SetCrashes.some-list
 
 -- So a set crash only ever takes runs away: events that have one with it have one with the row in its place. Not the
 -- other way round, since copies may move between single crashes: the request's logs, below, tell the two apart.
