@@ -2,7 +2,7 @@
 use Prim.Native.Nat.{ℕ, _%_, _^_}
 use mathlib.Core.Bool.{false, cond}
 use Rattle.model.specs.Cxl0
-use Rattle.model.specs.Cxl0.{Action}
+use Rattle.model.specs.Cxl0.{Value, nowhere, Action}
 use Rattle.model.specs.OneLocation.{Local, Site, enabledAt, effect}
 use Rattle.model.specs.Operations.{isOperation}
 use Rattle.model.specs.Meaning.{meant}
@@ -23,9 +23,13 @@ shortOf e = record { code = e .sharers; copy = e .copy; memory = e .memory }
 unfoldable pub entryOf : Local → entry.Entry
 entryOf s = record { sharers = s .code % 256; copy = s .copy; memory = s .memory }
 
--- No copies, and 0 in memory.
+-- The entry of a location at the start: no copies, and its initial value in memory.
+abbrev pub startEntry : Value → entry.Entry
+startEntry v = record { sharers = 0; copy = 0; memory = v }
+
+-- That of a location that is not listed.
 abbrev pub emptyEntry : entry.Entry
-emptyEntry = record { sharers = 0; copy = 0; memory = 0 }
+emptyEntry = startEntry (nowhere .initial)
 
 -- The entry with the copies of machines 1 to n and no others.
 unfoldable pub maskedTo : ℕ → entry.Entry → entry.Entry

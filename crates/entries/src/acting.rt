@@ -4,7 +4,7 @@ ghost use mathlib.Core.Path.{_≡_};
 ghost use mathlib.Core.Bool.{cond};
 ghost use Rattle.model.specs.Cxl0.{Crash, SetCrash, silent, Propagate, WriteBack};
 ghost use Rattle.model.specs.OneLocation.{clearsSite, readableAt};
-ghost use Rattle.entries.specs.Entries.{siteMeant, shortOf, maskedTo, actedOf, actedBy};
+ghost use Rattle.entries.specs.Entries.{siteMeant, shortOf, startEntry, maskedTo, actedOf, actedBy};
 use super::Acted;
 use super::Entry;
 use super::Site;
@@ -51,6 +51,17 @@ impl Site {
 }
 
 impl Entry {
+    // At the start: no cache holds the location, and memory holds its initial value.
+    pub fn start(initial: u32) -> Entry
+        ensures { λ r. ⌜ r ≡ startEntry initial ⌝ }
+    {
+        Entry {
+            sharers: 0,
+            copy: 0,
+            memory: initial,
+        }
+    }
+
     // The entry with the copies of machines 1 to n and no others.
     pub fn masked(self, n: u8) -> Entry
         ensures { λ r. ⌜ r ≡ maskedTo n self ⌝ }

@@ -5,6 +5,7 @@ mod sites;
 
 use model::Location;
 use model::Machine;
+use model::NOWHERE;
 
 // One location: bit i - 1 of `sharers` is set if machine i's cache holds a copy, all copies have the value
 // `copy`, and `memory` is the value in memory.
@@ -14,11 +15,11 @@ pub struct Entry {
     pub memory: u32,
 }
 
-// No cache holds the location, and its memory holds 0.
+// A location that is not listed: no cache ever holds it.
 pub const EMPTY: Entry = Entry {
     sharers: 0,
     copy: 0,
-    memory: 0,
+    memory: NOWHERE.initial,
 };
 
 // What an action at a location depends on beside its entry: the owner, whether a crash of the owner clears the memory,

@@ -1,6 +1,6 @@
 -- CXL0: what a system of machines that share memory over Compute Express Link may do, in the words of document 01,
--- "The model" (from source 000, section 3.3), with the read-modify-writes of request W-201 and the set crashes of
--- W-203. Malluvom's promises are stated over this page and `Schedule`.
+-- "The model" (from source 000, section 3.3), with the read-modify-writes of request W-201, the initial values of W-202
+-- and the set crashes of W-203. Malluvom's promises are stated over this page and `Schedule`.
 -- A test is a Bool; each event and each silent step has one clause in `enabled` and one in `next`.
 use Prim.Native.Nat.{ℕ, zero, suc, _^_, _≤_, _<_}
 use mathlib.Core.Path.{_≡_}
@@ -27,9 +27,14 @@ Value = ℕ
 abbrev pub MachineSet : Type 0
 MachineSet = ℕ
 
--- Where a location lives: in the memory of the machine that owns it.
+-- Where a location lives: in the memory of the machine that owns it, which holds this value for it at power-on.
 pub record Home : Type 0 where
   pub owner : Machine
+  pub initial : Value
+
+-- Where a location lives that is not listed: at no machine, which 0 stands for, and with 0 in memory.
+abbrev pub nowhere : Home
+nowhere = record { owner = 0; initial = 0 }
 
 -- The fixed part of a system (document 01: shelf): the number of machines, which of them have persistent memory (the
 -- others' is volatile), and the locations in the order of their numbers.
@@ -44,9 +49,9 @@ isMachine sys i = leb 1 i && leb i (sys .machines)
 unfoldable pub isLocation : Topology → Location → Bool
 isLocation sys x = ltb x (length (sys .homes))
 
--- The owner of a location. One that is not listed has none, which 0 stands for.
+-- The owner of a location.
 unfoldable pub owner : Topology → Location → Machine
-owner sys x = getD (sys .homes) x (record { owner = 0 }) .owner
+owner sys x = getD (sys .homes) x nowhere .owner
 
 -- Each location has one owner, a machine of the system.
 abbrev pub WellFormed : Topology → Type 0
@@ -54,7 +59,7 @@ WellFormed sys = (x : Location) → T (isLocation sys x) → T (isMachine sys (o
 
 -- The value that a location's memory holds at the start, and again after a crash that clears it.
 unfoldable pub initial : Topology → Location → Value
-initial sys x = 0
+initial sys x = getD (sys .homes) x nowhere .initial
 
 -- ---- the state
 

@@ -4,6 +4,7 @@ pub mod Operations
 pub mod Sharers
 pub mod OneLocation
 pub mod Goes
+pub mod Zeroed
 pub mod Sums
 pub mod Allowance
 pub mod Words

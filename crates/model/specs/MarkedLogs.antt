@@ -1,9 +1,9 @@
--- The marked logs of document 01, and those of request W-203: for each, its system, its events, and the verdict that it
--- must have.
+-- The marked logs of document 01, and those of requests W-202 and W-203: for each, its system, its events, and the
+-- verdict that it must have.
 use Prim.Native.Nat.{ℕ, zero, suc}
 use mathlib.Core.Bool.{Bool, true, false}
 use mathlib.Core.List.{List, [], _∷_, map}
-use Rattle.model.specs.Cxl0.{Machine, Location, Topology, HasRun, FirstImpossible}
+use Rattle.model.specs.Cxl0.{Machine, Location, Value, Home, Topology, HasRun, FirstImpossible}
 use Rattle.model.specs.Cxl0.{Event, LStore, RStore, MStore, Load, LFlush, RFlush, Crash, SetCrash}
 
 -- A verdict is a number: 0 says that the events have a run, any other is that of the first impossible event.
@@ -19,16 +19,20 @@ pub record MarkedLog : Type 0 where
 unfoldable pub log : Topology → List Event → ℕ → MarkedLog
 log sys es e = record { system = sys; events = es; verdict = e }
 
--- Three machines, whose memories are all persistent or all volatile, and the owners of L0, L1 and so on.
-unfoldable pub three : Bool → List Machine → Topology
-three kept owners =
-    record { machines = 3; persistent = λ i. kept; homes = map (λ k. record { owner = k }) owners }
+-- A location of machine k whose memory holds v at power-on.
+unfoldable pub filled : Machine → Value → Home
+filled k v = record { owner = k; initial = v }
 
+-- Three machines, whose memories are all persistent or all volatile, and L0, L1 and so on.
+unfoldable pub three : Bool → List Home → Topology
+three kept homes = record { machines = 3; persistent = λ i. kept; homes = homes }
+
+-- The same by the owners of L0, L1 and so on, whose memories start as zero.
 unfoldable pub persistent : List Machine → Topology
-persistent = three true
+persistent owners = three true (map (λ k. filled k 0) owners)
 
 unfoldable pub volatile : List Machine → Topology
-volatile = three false
+volatile owners = three false (map (λ k. filled k 0) owners)
 
 abbrev pub L0 : Location
 L0 = 0
@@ -70,6 +74,24 @@ logs =
     ∷ log (volatile (2 ∷ [])) (LStore 1 L0 1 ∷ Load 2 L0 1 ∷ LFlush 2 L0 ∷ Crash 2 ∷ Load 1 L0 1 ∷ []) 5
     -- 14. L0 of 2: allowed
     ∷ log (persistent (2 ∷ [])) (LStore 1 L0 1 ∷ Crash 1 ∷ Load 2 L0 1 ∷ []) 0
+    ∷ []
+
+-- The logs of request W-202: memories that are filled with a pattern at power-on.
+unfoldable pub patternLogs : List MarkedLog
+patternLogs =
+    -- The pattern is read back, and nothing else: allowed; impossible, 1
+    log (three true (filled 2 7 ∷ [])) (Load 1 L0 7 ∷ []) 0
+    ∷ log (three true (filled 2 7 ∷ [])) (Load 1 L0 0 ∷ []) 1
+    -- A volatile memory returns to it in a crash of its owner, not to 0, and a persistent one to neither: allowed;
+    -- impossible, 3; impossible, 3
+    ∷ log (three false (filled 2 7 ∷ [])) (MStore 1 L0 1 ∷ Crash 2 ∷ Load 1 L0 7 ∷ []) 0
+    ∷ log (three false (filled 2 7 ∷ [])) (MStore 1 L0 1 ∷ Crash 2 ∷ Load 1 L0 0 ∷ []) 3
+    ∷ log (three true (filled 2 7 ∷ [])) (MStore 1 L0 1 ∷ Crash 2 ∷ Load 1 L0 7 ∷ []) 3
+    -- In a set crash of 1 and 2 each location returns to its own: allowed; impossible, 5
+    ∷ log (three false (filled 1 7 ∷ filled 2 9 ∷ []))
+    (MStore 3 L0 1 ∷ MStore 3 L1 1 ∷ SetCrash 3 ∷ Load 3 L0 7 ∷ Load 3 L1 9 ∷ []) 0
+    ∷ log (three false (filled 1 7 ∷ filled 2 9 ∷ []))
+    (MStore 3 L0 1 ∷ MStore 3 L1 1 ∷ SetCrash 3 ∷ Load 3 L0 7 ∷ Load 3 L1 7 ∷ []) 5
     ∷ []
 
 -- The logs of request W-203, L0 of 1 and all volatile: single crashes of 1 and 2, allowed, since the copy may move from

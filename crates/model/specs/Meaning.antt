@@ -13,7 +13,7 @@ use Rattle.model.specs.declared.Home as home
 use Rattle.model.specs.declared.Topology as topology
 
 abbrev pub homeOf : home.Home → Home
-homeOf h = record { owner = h .owner .0 }
+homeOf h = record { owner = h .owner .0; initial = h .initial }
 
 unfoldable pub topologyOf : topology.Topology → Topology
 topologyOf t =

@@ -14,10 +14,17 @@ pub struct Machine(pub u8);
 // A location, numbered from 0.
 pub struct Location(pub u8);
 
-// Where a location lives.
+// Where a location lives, and the value that its memory holds at the start and after a crash that clears it.
 pub struct Home {
     pub owner: Machine,
+    pub initial: u32,
 }
+
+// Where a location lives that is not listed: at no machine.
+pub const NOWHERE: Home = Home {
+    owner: Machine(0),
+    initial: 0,
+};
 
 // The fixed part of a system: machines 1 to `machines`, the first `locations` of `homes`, and bit i - 1 of
 // `persistent` set if machine i's memory is persistent.

@@ -2,12 +2,15 @@
 ghost use mathlib.Core.Path.{_≡_};
 ghost use mathlib.Core.Bool.{_&&_};
 ghost use Prim.Native.Nat.{_≤_};
-ghost use Rattle.model.specs.Cxl0.{isMachine, isLocation, owner, initial, named, event, SetCrash};
-ghost use Rattle.model.specs.Meaning.{topologyOf, ownersFit, withinLimits};
+ghost use lib.ListN.{getD};
+ghost use Rattle.model.specs.Cxl0.{nowhere, isMachine, isLocation, owner, initial, named, event, SetCrash};
+ghost use Rattle.model.specs.Meaning.{homeOf, topologyOf, ownersFit, withinLimits};
+use super::Home;
 use super::LOCATIONS;
 use super::Location;
 use super::MACHINES;
 use super::Machine;
+use super::NOWHERE;
 use super::Topology;
 use super::codes::bit;
 use super::codes::none_above;
@@ -64,17 +67,24 @@ impl Topology {
         (at < count) & (at < LOCATIONS)
     }
 
+    // Where a location lives.
+    fn home(self, x: Location) -> Home
+        ensures { λ r. ⌜ homeOf r ≡ getD (topologyOf self .homes) (x .0) nowhere ⌝ }
+    {
+        if self.is_location(x) {
+            let at = x.0 as usize;
+            self.homes[at]
+        } else {
+            NOWHERE
+        }
+    }
+
     // The owner of a location, or machine 0, which is none.
     pub fn owner(self, x: Location) -> Machine
         ensures { λ r. ⌜ r .0 ≡ owner (topologyOf self) (x .0) ⌝ }
     {
-        if self.is_location(x) {
-            let at = x.0 as usize;
-            let h = self.homes[at];
-            h.owner
-        } else {
-            Machine(0)
-        }
+        let h = self.home(x);
+        h.owner
     }
 
     // Machine i's memory is persistent.
@@ -89,7 +99,8 @@ impl Topology {
     pub fn initial(self, x: Location) -> u32
         ensures { λ r. ⌜ r ≡ initial (topologyOf self) (x .0) ⌝ }
     {
-        0
+        let h = self.home(x);
+        h.initial
     }
 
     // Within the limits, with this machine and this location.

@@ -1,16 +1,16 @@
 -- What the program's states and answers mean, and what an action makes of them, in the words of `Cxl0`.
-use Prim.Native.Nat.{ℕ, suc}
+use Prim.Native.Nat.{ℕ, zero, suc}
 use mathlib.Core.Bool.{Bool, false, cond, _&&_}
 use mathlib.Core.List.{List, [], _∷_}
-use lib.ListN.{getD, set, replicate}
+use lib.ListN.{getD, set}
 use Rattle.model.specs.Cxl0
-use Rattle.model.specs.Cxl0.{Location, State, Action, possible}
+use Rattle.model.specs.Cxl0.{Location, Topology, initial, State, Action, possible}
 use Rattle.model.specs.OneLocation.{Local, expand, concerns, siteOf, effect}
 use Rattle.model.specs.Operations.{isOperation}
 use Rattle.model.specs.Meaning.{topologyOf, withinLimits, Outcome, meant}
 use Rattle.model.specs.declared.Event as event
 use Rattle.model.specs.declared.Topology as topology
-use Rattle.entries.specs.Entries.{shortOf, entryOf, maskedTo, emptyEntry}
+use Rattle.entries.specs.Entries.{shortOf, entryOf, startEntry, emptyEntry, maskedTo}
 use Rattle.entries.specs.declared.Entry as entry
 use Rattle.entries.specs.declared.Acted as acted
 use Rattle.states.specs.declared.State as state
@@ -30,9 +30,13 @@ stateOf t s = expand (λ x. localOf (t .machines) (entryAt s x))
 unfoldable pub outcomeOf : topology.Topology → stepped.Stepped → Outcome
 outcomeOf t r = record { possible = r .possible; state = stateOf t (r .state) }
 
--- All entries empty.
-unfoldable pub startState : state.State
-startState = record { entries = replicate 32 emptyEntry }
+-- At the start: n entries from location x on, and those of all 32 locations.
+unfoldable pub startEntries : Topology → (n : ℕ) → Location → List entry.Entry
+startEntries sys zero x = []
+startEntries sys (suc n) x = startEntry (initial sys x) ∷ startEntries sys n (suc x)
+
+unfoldable pub startState : topology.Topology → state.State
+startState t = record { entries = startEntries (topologyOf t) 32 0 }
 
 -- The entry of location x after an action that concerns it, where it was e.
 unfoldable pub entryAfter : topology.Topology → Action → Location → entry.Entry → entry.Entry

@@ -42,14 +42,19 @@ fn numbered(operation: u8, machine: Machine, location: Location, value: u32, wri
 }
 
 impl State {
-    // At the start no cache holds anything and memories hold 0, whatever the topology.
+    // At the start no cache holds anything and memories hold their initial values.
     pub fn start(t: Topology) -> State
         ensures { λ r. ⌜ stateOf t r ≡ start (topologyOf t) ⌝ }
-        ensures whole { λ r. ⌜ r ≡ startState ⌝ }
+        ensures whole { λ r. ⌜ r ≡ startState t ⌝ }
     {
-        State {
-            entries: [EMPTY; LOCATIONS],
+        let mut entries = [EMPTY; LOCATIONS];
+        let mut at: usize = 0;
+        while at < LOCATIONS {
+            let y = at as u8;
+            entries[at] = Entry::start(t.initial(Location(y)));
+            at += 1;
         }
+        State { entries }
     }
 
     // The entry of a location, with the copies of the system's machines and no others.
@@ -124,7 +129,7 @@ impl State {
         }
     }
 
-    // i's cache is emptied; if i's memory is volatile, the locations that i owns become 0 in memory.
+    // i's cache is emptied; if i's memory is volatile, the locations that i owns return to their initial values.
     pub fn crash(self, t: Topology, i: Machine) -> Stepped
         ensures { λ r. ⌜ outcomeOf t r ≡ attempt t (event (Crash (i .0))) (stateOf t self) ⌝ }
         ensures kept { λ r. ⌜ (r .possible ≡ false → r .state ≡ self) ⌝ }
