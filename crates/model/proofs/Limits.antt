@@ -11,7 +11,7 @@ use lib.Dec.{T, leb, ltb, leb→le, ltb→lt, lt→ltb}
 use lib.ListN.{length, getD, take, drop, drop-of-length-le, length-take, length-map}
 use lib.ListN.{List·getD-map, List·getD-eq-default}
 use lib.Seq.{getD-take, drop-cons}
-use Rattle.model.specs.Cxl0.{Location, Home, isMachine, isLocation, owner, WellFormed}
+use Rattle.model.specs.Cxl0.{Location, Home, nowhere, isMachine, isLocation, owner, WellFormed}
 use Rattle.model.specs.Meaning.{homeOf, topologyOf, ownersFit, withinLimits}
 use Rattle.model.specs.declared.Home as home
 use Rattle.model.specs.declared.Topology as topology
@@ -50,27 +50,29 @@ unfolding isLocation topologyOf
 listed-below t x h =
     omega (arith, simp (length-map, length-take) at (ltb→lt x (length (topologyOf t .homes)) h))
 
--- A home at no machine.
-abbrev pub nowhere : home.Home
-nowhere = record { owner = record { 0 = 0 } }
+-- The struct for `nowhere`.
+abbrev pub noHome : home.Home
+noHome = record { owner = record { 0 = 0 }; initial = 0 }
 
--- The owner of a listed location stands in its home.
+-- Where a listed location lives stands in the array.
+pub home-at : (t : topology.Topology) (x : Location) → x < t .locations
+    → homeOf (getD (t .homes) x noHome) ≡ getD (topologyOf t .homes) x nowhere
+unfolding topologyOf
+home-at t x h =
+    sym
+    (List·getD-map homeOf (take (t .locations) (t .homes)) x noHome
+    ∙ ap homeOf (getD-take (t .locations) (t .homes) x noHome h))
+
 pub owner-at : (t : topology.Topology) (x : Location) → x < t .locations
-    → getD (t .homes) x nowhere .owner .0 ≡ owner (topologyOf t) x
-unfolding owner topologyOf
-owner-at t x h =
-    ap (λ (e : Home). e .owner)
-    (sym
-    (List·getD-map homeOf (take (t .locations) (t .homes)) x nowhere
-    ∙ ap homeOf (getD-take (t .locations) (t .homes) x nowhere h)))
+    → getD (t .homes) x noHome .owner .0 ≡ owner (topologyOf t) x
+unfolding owner
+owner-at t x h = ap (λ (e : Home). e .owner) (home-at t x h)
 
--- A location that is not listed has no owner.
-pub no-owner : (t : topology.Topology) (x : Location) → isLocation (topologyOf t) x ≡ false
-    → 0 ≡ owner (topologyOf t) x
-unfolding owner isLocation
-no-owner t x e =
-    ap (λ (h : Home). h .owner)
-    (sym (List·getD-eq-default (topologyOf t .homes) (record { owner = 0 }) (ltb-false x _ e)))
+-- A location that is not listed lives nowhere.
+pub at-nowhere : (t : topology.Topology) (x : Location) → isLocation (topologyOf t) x ≡ false
+    → nowhere ≡ getD (topologyOf t .homes) x nowhere
+unfolding isLocation
+at-nowhere t x e = sym (List·getD-eq-default (topologyOf t .homes) nowhere (ltb-false x _ e))
 
 -- The owners from location x on fit if that of x does and those of the rest do.
 module _ (t : topology.Topology) (room : length (t .homes) ≡ 32) (few : t .locations ≤ 32) where
@@ -83,17 +85,17 @@ module _ (t : topology.Topology) (room : length (t .homes) ≡ 32) (few : t .loc
   fit-end x h = rw (drop-of-length-le (topologyOf t .homes) {i = x} (rw homes-count h))
 
   pub fit-more : (x : ℕ) → x < t .locations
-      → (b : Bool) → isMachine (topologyOf t) (getD (t .homes) x nowhere .owner .0) ≡ b
+      → (b : Bool) → isMachine (topologyOf t) (getD (t .homes) x noHome .owner .0) ≡ b
       → ownersFit (t .machines) (drop x (topologyOf t .homes))
       ≡ (b && ownersFit (t .machines) (drop (x + 1) (topologyOf t .homes)))
   unfolding ownersFit owner isMachine topologyOf
   fit-more x h b e =
-      let first = drop-cons (topologyOf t .homes) x (record { owner = 0 }) (rw homes-count h) in
+      let first = drop-cons (topologyOf t .homes) x nowhere (rw homes-count h) in
       rw (← e, first, add-one x, owner-at t x h)
 
 -- One of owners that fit fits.
 owner-fits : (n : ℕ) (hs : List Home) → T (ownersFit n hs) → (x : ℕ) → x < length hs
-    → let o = getD hs x (record { owner = 0 }) .owner in T (leb 1 o && leb o n)
+    → let o = getD hs x nowhere .owner in T (leb 1 o && leb o n)
 unfolding ownersFit
 owner-fits n [] h x l = absurd (not-suc-le-zero l)
 owner-fits n (o ∷ hs) h zero l = and-l (leb 1 (o .owner) && leb (o .owner) n) (ownersFit n hs) h

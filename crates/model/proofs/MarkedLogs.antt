@@ -1,5 +1,5 @@
--- The marked logs have the verdicts that document 01 gives them: one computed test over the list, and one
--- theorem that carries it to each log.
+-- The marked logs have the verdicts that document 01 and the requests give them: one computed test over each list, and
+-- one theorem that carries it to each log.
 use Prim.Native.Nat.{ℕ, zero, suc}
 use native.Mathlib.Nat.{le-of-suc-le-suc}
 use native.Mathlib.Omega.{arith}
@@ -13,7 +13,8 @@ use Rattle.model.specs.Sharers.{has, insert, remove, removeAll}
 use Rattle.model.specs.OneLocation.{concerns, eventAt, moved, enabledAt, effect, locationOf, siteOf}
 use Rattle.model.specs.OneLocation.{possibleAt, nextAt, startAt}
 use Rattle.model.specs.Meaning.{ownersFit}
-use Rattle.model.specs.MarkedLogs.{Verdict, MarkedLog, log, three, persistent, volatile, logs, setCrashLogs}
+use Rattle.model.specs.MarkedLogs.{Verdict, MarkedLog, log, three, persistent, volatile}
+use Rattle.model.specs.MarkedLogs.{logs, patternLogs, setCrashLogs}
 use Rattle.model.proofs.Tests.{and-l, and-r}
 use Rattle.model.proofs.Owners.{owners-fit}
 use Rattle.model.proofs.SomeSilent.{someMoved, someSilent}
@@ -65,6 +66,14 @@ unfolding
     concerns eventAt locationOf enabledAt siteOf moved effect possibleAt nextAt startAt
 all-right = tt
 
+all-right-pattern : T (allRight patternLogs)
+unfolding
+    patternLogs log three
+    allRight right ownersFit judged decide everyBelow good someSilent someMoved
+    isMachine isLocation owner initial crashes clears named allNamed has insert remove removeAll
+    concerns eventAt locationOf enabledAt siteOf moved effect possibleAt nextAt startAt
+all-right-pattern = tt
+
 all-right-set : T (allRight setCrashLogs)
 unfolding
     setCrashLogs log three volatile
@@ -87,6 +96,10 @@ each-right ls t l m =
 pub marked-logs : (l : MarkedLog) → List·Memᴰ l logs
     → WellFormed (l .system) × Verdict (l .system) (l .events) (l .verdict)
 marked-logs = each-right logs all-right
+
+pub pattern-logs : (l : MarkedLog) → List·Memᴰ l patternLogs
+    → WellFormed (l .system) × Verdict (l .system) (l .events) (l .verdict)
+pattern-logs = each-right patternLogs all-right-pattern
 
 pub set-crash-logs : (l : MarkedLog) → List·Memᴰ l setCrashLogs
     → WellFormed (l .system) × Verdict (l .system) (l .events) (l .verdict)

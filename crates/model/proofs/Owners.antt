@@ -5,7 +5,7 @@ use mathlib.Core.Bool.{_&&_}
 use mathlib.Core.List.{List, [], _∷_}
 use lib.Dec.{T, leb, ltb→lt}
 use lib.ListN.{length, getD}
-use Rattle.model.specs.Cxl0.{Location, Home, Topology, isMachine, isLocation, owner, WellFormed}
+use Rattle.model.specs.Cxl0.{Location, Home, nowhere, Topology, isMachine, isLocation, owner, WellFormed}
 use Rattle.model.specs.Meaning.{ownersFit}
 use Rattle.model.proofs.Tests.{and-l, and-r}
 
@@ -20,4 +20,4 @@ fit-at n (h ∷ hs) (suc x) d t l =
 pub owners-fit : (sys : Topology) → T (ownersFit (sys .machines) (sys .homes)) → WellFormed sys
 unfolding isLocation isMachine owner
 owners-fit sys t x l =
-    fit-at (sys .machines) (sys .homes) x (record { owner = 0 }) t (ltb→lt x (length (sys .homes)) l)
+    fit-at (sys .machines) (sys .homes) x nowhere t (ltb→lt x (length (sys .homes)) l)

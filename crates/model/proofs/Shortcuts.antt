@@ -1,4 +1,4 @@
--- For each false shortcut of document 01, and of requests W-201 and W-203, that concerns the model, a list of actions
+-- For each false shortcut of document 01, and of requests W-201 to W-203, that concerns the model, a list of actions
 -- that tells it from CXL0: the list is a run, or is none, by computation from the definitions alone.
 use mathlib.Core.Bool.{Bool, true, false, not, _&&_}
 use mathlib.Core.List.{List, [], _∷_}
@@ -9,7 +9,7 @@ use Rattle.model.specs.Cxl0.{Propagate, WriteBack}
 use Rattle.model.specs.Sharers.{has}
 use Rattle.model.specs.Cxl0.{Topology, Action, event, silent, crashes, clears, named, enabled, next}
 use Rattle.model.specs.Cxl0.{possible, runs}
-use Rattle.model.specs.MarkedLogs.{three, persistent, volatile, L0}
+use Rattle.model.specs.MarkedLogs.{filled, three, persistent, volatile, L0}
 
 pub record Case : Type 0 where
   pub system : Topology
@@ -62,6 +62,14 @@ cases =
     -- One that empties the cache of a machine outside the set: machine 3 has its copy still.
     ∷ case (volatile (1 ∷ []))
     (event (LStore 3 L0 5) ∷ event (SetCrash 3) ∷ event (Load 2 L0 5) ∷ [])
+    true
+    -- Memory that starts as zero, whatever fills it: the pattern would not be read back.
+    ∷ case (three true (filled 2 7 ∷ []))
+    (event (Load 1 L0 7) ∷ [])
+    true
+    -- A crash that returns volatile memory to 0: request W-202's pattern is lost.
+    ∷ case (three false (filled 2 7 ∷ []))
+    (event (MStore 1 L0 1) ∷ event (Crash 2) ∷ event (Load 1 L0 7) ∷ [])
     true
     ∷ []
 

@@ -20,7 +20,7 @@ unfoldable pub log : Topology → List Event → ℕ → MarkedLog
 log sys es e = record { system = sys; events = es; verdict = e }
 
 -- A location of machine k whose memory holds v at power-on.
-unfoldable pub filled : Machine → Value → Home
+abbrev pub filled : Machine → Value → Home
 filled k v = record { owner = k; initial = v }
 
 -- Three machines, whose memories are all persistent or all volatile, and L0, L1 and so on.

@@ -1,34 +1,13 @@
 -- `owner` meets its contract.
-use Prim.Native.Nat.{_<_}
-use mathlib.Core.Path.{_≡_, sym, _∙_}
-use lib.ListN.{length}
-use borrow.Author.Needs.{needs}
+use mathlib.Core.Path.{ap}
+use Rattle.model.specs.Cxl0.{Home, owner}
 use Rattle.model.proofs.Tests.{nothing}
-use Rattle.model.proofs.Limits.{mapped, listed-e, owner-at, no-owner}
 use Rattle.model.proofs.Topology.owner.Statement.{statement}
 use Rattle.model.proofs.Topology.owner.Tie as tie
 
-room : (c : tie.Start) → length (c .args .t1 .homes) ≡ 32
-room c = search mapped
-
-listed : (c : tie.Then1)
-    → let h = c .before .before .args in (h .x .0 < h .t1 .locations) × (h .x .0 < 32)
-listed c =
-    let h = c .before .before in
-    listed-e (h .args .t1) (room h) (h .args .x .0) (sym (c .before .is-location .ensures) ∙ c .if1 .taken)
-
-element-copy-out-h : tie.Need-element-copy-out-h
-element-copy-out-h c = listed (c .before) .1
-
 returns : tie.Need-returns
-returns c =
-    let h = c .before .before .before in
-    owner-at (h .before .before .args .t1) (h .before .before .args .x .0) (listed h .0)
-
-returns-2 : tie.Need-returns-2
-returns-2 c =
-    let h = c .before .before .args in
-    no-owner (h .t1) (h .x .0) (sym (c .before .is-location .ensures) ∙ c .if1 .left)
+unfolding owner
+returns c = ap (λ (h : Home). h .owner) (c .before .home .ensures)
 
 pub owner-spec : {M : Type 1} → statement M
-owner-spec = tie.close (tie.spec nothing (λ c. search needs) element-copy-out-h returns returns-2)
+owner-spec = tie.close (tie.spec nothing returns)

@@ -4,6 +4,7 @@ use native.Mathlib.Omega.{arith}
 use mathlib.Core.Path.{_≡_, refl, sym, _∙_}
 use mathlib.Core.Bool.{Bool, _&&_, false, true}
 use borrow.Author.Tests.{not-true, not-false}
+use borrow.Author.Needs.{needs}
 use lib.ListN.{length, drop}
 use Rattle.model.specs.Meaning.{topologyOf, ownersFit}
 use Rattle.model.proofs.Tests.{nothing}
@@ -70,6 +71,7 @@ owners-fit-spec =
     μ-loop
     cast-count
     loop-holds
+    (λ c. search needs)
     element-copy-out-h
     nothing
     returns
