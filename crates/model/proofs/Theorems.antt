@@ -10,12 +10,15 @@ use lib.Dec.{T}
 use lib.ListN.{length, take}
 use Rattle.model.specs.Cxl0.{Machine, Location, Value, MachineSet, Topology, WellFormed, isLocation, owner}
 use Rattle.model.specs.Cxl0.{State, start, everyMachine, cached, Form, Load, RMW, SetCrash, Event, Action, event}
-use Rattle.model.specs.Cxl0.{next, named, allNamed, Run, HasRun, after, events, silents, count, isStore, isLoad}
+use Rattle.model.specs.Cxl0.{next, named, allNamed, Run, HasRun, FirstImpossible}
+use Rattle.model.specs.Cxl0.{after, events, silents, count, isStore, isLoad}
 use Rattle.model.specs.Schedule.{Step, weave, schedule, inOrder}
 use Rattle.model.specs.OneLocation.{Local, startAt, runsAt, HasRunAt, Moves, Silently}
 use Rattle.model.specs.Sharers.{has}
 use Rattle.model.specs.Goes.{storeOf, Lists, crashRow}
-use Rattle.model.specs.MarkedLogs.{MarkedLog, Verdict, logs, setCrashLogs}
+use Rattle.model.specs.Zeroed as zeroed
+use Rattle.model.specs.Zeroed.{WakesAsZero}
+use Rattle.model.specs.MarkedLogs.{MarkedLog, Verdict, logs, patternLogs, setCrashLogs}
 use Rattle.model.proofs.CopiesAgree
 use Rattle.model.proofs.Bound
 use Rattle.model.proofs.Split
@@ -26,6 +29,7 @@ use Rattle.model.proofs.Weaving
 use Rattle.model.proofs.ReadModifyWrites
 use Rattle.model.proofs.SideBySide
 use Rattle.model.proofs.SetCrashes
+use Rattle.model.proofs.Zeroed
 use Rattle.model.proofs.MarkedLogs as marked
 
 -- 1. Copies of one location always agree in value, in every state that a run reaches.
@@ -137,10 +141,32 @@ pub set-crash-all : (sys : Topology) (set : MachineSet) → T (everyMachine (sys
     → (s : State) (x : Location) → T (not (cached sys (next sys (event (SetCrash set)) s) x))
 set-crash-all = SetCrashes.all-empty
 
--- The fourteen marked logs have the verdicts that document 01 gives them, and the two of request W-203 theirs.
+-- 9. A system that wakes up as zero is the one of document 01 (`Zeroed`): it starts in the same state, every action
+-- leaves the same state, the same lists are runs, and the same events have a run or a first impossible one.
+pub zero-start : (sys : Topology) → WakesAsZero sys → start sys ≡ zeroed.start
+zero-start = Zeroed.same-start
+
+pub zero-next : (sys : Topology) → WakesAsZero sys → (a : Action) (s : State) → next sys a s ≡ zeroed.next sys a s
+zero-next = Zeroed.same-next
+
+pub zero-run : (sys : Topology) → WakesAsZero sys → (acts : List Action) → Run sys acts ↔ zeroed.Run sys acts
+zero-run = Zeroed.same-run
+
+pub zero-has-run : (sys : Topology) → WakesAsZero sys → (es : List Event) → HasRun sys es ↔ zeroed.HasRun sys es
+zero-has-run = Zeroed.same-has-run
+
+pub zero-first-impossible : (sys : Topology) → WakesAsZero sys → (es : List Event) (e : ℕ)
+    → FirstImpossible sys es e ↔ zeroed.FirstImpossible sys es e
+zero-first-impossible = Zeroed.same-first-impossible
+
+-- The fourteen marked logs have the verdicts that document 01 gives them, and those of requests W-202 and W-203 theirs.
 pub marked-logs : (l : MarkedLog) → List·Memᴰ l logs
     → WellFormed (l .system) × Verdict (l .system) (l .events) (l .verdict)
 marked-logs = marked.marked-logs
+
+pub pattern-logs : (l : MarkedLog) → List·Memᴰ l patternLogs
+    → WellFormed (l .system) × Verdict (l .system) (l .events) (l .verdict)
+pattern-logs = marked.pattern-logs
 
 pub set-crash-logs : (l : MarkedLog) → List·Memᴰ l setCrashLogs
     → WellFormed (l .system) × Verdict (l .system) (l .events) (l .verdict)
