@@ -11,7 +11,7 @@ use lib.Dec.{T, leb, ltb, leb→le, ltb→lt, lt→ltb}
 use lib.ListN.{length, getD, take, drop, drop-of-length-le, length-take, length-map}
 use lib.ListN.{List·getD-map, List·getD-eq-default}
 use lib.Seq.{getD-take, drop-cons}
-use Rattle.model.specs.Cxl0.{Location, Home, nowhere, isMachine, isLocation, owner, WellFormed}
+use Rattle.model.specs.Cxl0.{Location, Home, nowhere, Topology, isMachine, isLocation, owner, initial, WellFormed}
 use Rattle.model.specs.Meaning.{homeOf, topologyOf, ownersFit, withinLimits}
 use Rattle.model.specs.declared.Home as home
 use Rattle.model.specs.declared.Topology as topology
@@ -69,10 +69,13 @@ unfolding owner
 owner-at t x h = ap (λ (e : Home). e .owner) (home-at t x h)
 
 -- A location that is not listed lives nowhere.
-pub at-nowhere : (t : topology.Topology) (x : Location) → isLocation (topologyOf t) x ≡ false
-    → nowhere ≡ getD (topologyOf t .homes) x nowhere
+pub at-nowhere : (sys : Topology) (x : Location) → isLocation sys x ≡ false → nowhere ≡ getD (sys .homes) x nowhere
 unfolding isLocation
-at-nowhere t x e = sym (List·getD-eq-default (topologyOf t .homes) nowhere (ltb-false x _ e))
+at-nowhere sys x e = sym (List·getD-eq-default (sys .homes) nowhere (ltb-false x _ e))
+
+pub initial-nowhere : (sys : Topology) (x : Location) → isLocation sys x ≡ false → initial sys x ≡ nowhere .initial
+unfolding initial
+initial-nowhere sys x e = ap (λ (h : Home). h .initial) (sym (at-nowhere sys x e))
 
 -- The owners from location x on fit if that of x does and those of the rest do.
 module _ (t : topology.Topology) (room : length (t .homes) ≡ 32) (few : t .locations ≤ 32) where

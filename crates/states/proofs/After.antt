@@ -10,7 +10,7 @@ use borrow.Author.Tests.{ne-eqb}
 use lib.Dec.{T, eqb, ltb, ltb→lt, nltb→le}
 use lib.ListN.{length, getD, List·getD-eq-default}
 use lib.Seq.{ext-getD}
-use Rattle.model.specs.Cxl0.{Location, isMachine, isLocation, initial, clears}
+use Rattle.model.specs.Cxl0.{Location, nowhere, isMachine, isLocation, initial, clears}
 use Rattle.model.specs.Cxl0.{Event, Crash, SetCrash, Propagate, WriteBack}
 use Rattle.model.specs.Cxl0.{Action, event, silent, named, enabled, possible, next}
 use Rattle.model.specs.OneLocation.{Local, expand, concerns, silentAt, eventAt, locationOf, siteOf}
@@ -26,7 +26,7 @@ use Rattle.states.specs.declared.Stepped as stepped
 use Rattle.model.proofs.Tests.{and-i, and-l, and-r, by-test, T→true, not→false}
 use Rattle.model.proofs.Sharers.{remove-le, remove-all-le}
 use Rattle.model.proofs.Locations.{IsCrash, single, several, located, crash-nowhere, crash-everywhere, named-location}
-use Rattle.model.proofs.Limits.{listed-below, within}
+use Rattle.model.proofs.Limits.{initial-nowhere, listed-below, within}
 use Rattle.model.proofs.Expand.{InRange, next-expand}
 use Rattle.states.proofs.Effects.{local-range, admits, stands}
 
@@ -98,11 +98,14 @@ module _ (t : topology.Topology) (y : Location) (none : T (isLocation (topologyO
 
   -- A crash finds nothing to lose.
   lost-none : (e : Event) (c : ℕ) → c ≤ 0 % 2 ^ t .machines → crashedAt (siteOf (topologyOf t) y) e c empty ≡ empty
-  unfolding localOf shortOf maskedTo siteOf clears initial
+  unfolding localOf shortOf maskedTo siteOf clears
   lost-none e c less =
       let z = zero-mod (2 ^ t .machines) in
       let k : c ≡ 0 % 2 ^ t .machines = omega arith in
-      λ j. record { code = k j; copy = 0; memory = same (clears (topologyOf t) e y) 0 j }
+      let begins = initial-nowhere (topologyOf t) y (by-test (isLocation (topologyOf t) y) (λ l. absurd (none l)) not→false) in
+      let cleared = clears (topologyOf t) e y in
+      let m : cond cleared (initial (topologyOf t) y) (nowhere .initial) ≡ nowhere .initial = rw begins (same cleared _) in
+      λ j. record { code = k j; copy = 0; memory = m j }
 
   nothing-lost : {e : Event} → IsCrash e → effect (siteOf (topologyOf t) y) (event e) empty ≡ empty
   unfolding localOf shortOf maskedTo effect

@@ -24,12 +24,7 @@ use Rattle.states.specs.declared.State as state
 use Rattle.model.proofs.Tests.{by-test, same-test, ne-test, T→true}
 use Rattle.model.proofs.Locations.{nowhere-crash, crash-everywhere, crash-enabled}
 use Rattle.states.proofs.After.{all-after}
-
-before-next : (y at : ℕ) → y ≢ at → ltb y (at + 1) ≡ ltb y at
-before-next y at n =
-    same-test (ltb y (at + 1)) (ltb y at)
-    (λ h. lt→ltb y at (omega (arith, ltb→lt y (at + 1) h)))
-    (λ h. lt→ltb y (at + 1) (omega (arith, ltb→lt y at h)))
+use Rattle.states.proofs.Filling.{one-more}
 
 -- The entry of location y once a crash has gone over the locations before `at`.
 abbrev pub partly : topology.Topology → Event → state.State → ℕ → Location → entry.Entry
@@ -42,15 +37,10 @@ module _ (t : topology.Topology) (e : Event) where
         → (y : Location)
         → entryAt (record { entries = set (s .entries) at after }) y ≡ partly t e s₀ (at + 1) y
     unfolding entryAt
-    turn after l f y =
-        by-test (eqb y at)
-        (λ q.
+    turn after l f =
         let k : entryAt s at ≡ entryAt s₀ at = rw (le-ltb at at (le-refl at)) at (so-far at) in
-        rw (eqb→eq y at q, getD-set-same (s .entries) at after emptyEntry l, lt-ltb at (at + 1) (omega arith))
-        (f ∙ ap (entryAfter t (Cxl0.event e) at) k))
-        (λ q.
-        let n = ne-test y at q in
-        rw (getD-set-other (s .entries) at y after emptyEntry n, before-next y at n) (so-far y))
+        one-more emptyEntry (λ y. entryAfter t (Cxl0.event e) y (entryAt s₀ y)) (entryAt s₀) (s .entries) at so-far l
+        after (f ∙ ap (entryAfter t (Cxl0.event e) at) k)
 
     -- All of them, since a crash concerns every location.
     pub done : T (isCrash e) → length (s .entries) ≡ length (s₀ .entries) → length (s₀ .entries) ≤ at

@@ -1,9 +1,9 @@
 -- `home` meets its contract: the element of the array, or none.
 use Prim.Native.Nat.{_<_}
-use native.Mathlib.Omega.{arith}
 use mathlib.Core.Path.{_≡_, sym, _∙_}
 use lib.ListN.{length}
 use borrow.Author.Needs.{needs}
+use Rattle.model.specs.Meaning.{topologyOf}
 use Rattle.model.proofs.Tests.{nothing}
 use Rattle.model.proofs.Limits.{mapped, listed-e, home-at, at-nowhere}
 use Rattle.model.proofs.Topology.home.Statement.{statement}
@@ -29,7 +29,7 @@ returns c =
 returns-2 : tie.Need-returns-2
 returns-2 c =
     let h = c .before .before .args in
-    at-nowhere (h .t1) (h .x .0) (sym (c .before .is-location .ensures) ∙ c .if1 .left)
+    at-nowhere (topologyOf (h .t1)) (h .x .0) (sym (c .before .is-location .ensures) ∙ c .if1 .left)
 
 pub home-spec : {M : Type 1} → statement M
 home-spec =

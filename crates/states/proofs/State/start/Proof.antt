@@ -1,44 +1,90 @@
--- `start` meets its contract.
-use Prim.Native.Nat.{ℕ, zero, suc, _^_}
-use native.Mathlib.Nat.{zero-mod}
-use mathlib.Core.Path.{_≡_, refl, sym, ap, _∙_, fun-ext}
-use lib.ListN.{getD, replicate}
-use Rattle.model.specs.Cxl0.{Location, initial, start}
-use Rattle.model.specs.OneLocation.{expand, startAt}
+-- `start` meets its contract. The loop's invariant: the entries before `at` have their initial values, and the others
+-- are empty.
+use Prim.Native.Nat.{ℕ, zero, suc, _-_}
+use native.Mathlib.Omega.{arith}
+use mathlib.Core.Path.{_≡_, refl, ap, _∙_}
+use borrow.Author.Tests.{le-ltb}
+use lib.ListN.{length, getD, length-set, replicate}
+use Rattle.model.specs.Cxl0.{initial, start}
 use Rattle.model.specs.Meaning.{topologyOf}
-use Rattle.entries.specs.Entries.{shortOf, maskedTo, emptyEntry}
-use Rattle.states.specs.States.{entryAt, localOf, stateOf, startState}
-use Rattle.entries.specs.declared.Entry as entry
 use Rattle.model.specs.declared.Topology as topology
+use Rattle.entries.specs.Entries.{startEntry, emptyEntry}
+use Rattle.entries.specs.declared.Entry as entry
+use Rattle.states.specs.States.{stateOf, startState}
 use Rattle.states.specs.declared.State as state
-use Rattle.model.proofs.Expand.{start-expand}
+use Rattle.model.proofs.Tests.{nothing}
+use Rattle.model.proofs.Limits.{mapped}
+use Rattle.states.proofs.Filling.{one-more}
+use Rattle.states.proofs.Starts.{partly, all-filled, begun}
 use Rattle.states.proofs.State.start.Statement.{statement}
 use Rattle.states.proofs.State.start.Tie as tie
+
+abbrev Inv-loop : tie.InvT-loop
+Inv-loop t entries₀ at₀ entries at =
+    (length entries ≡ 32) × ((y : ℕ) → getD entries y emptyEntry ≡ partly t at y)
+
+abbrev μ-loop : tie.MeasureT-loop
+μ-loop t entries₀ at₀ entries at = 32 - at
+
+room : (c : tie.Start Inv-loop μ-loop) → length (c .args .t .homes) ≡ 32
+room c = search mapped
 
 same : (k x : ℕ) (e : entry.Entry) → getD (replicate k e) x e ≡ e
 same zero x e = refl
 same (suc k) zero e = refl
 same (suc k) (suc x) e = same k x e
 
--- An empty entry stands for the short form that a location has at the start.
-none : (t : topology.Topology) (x : Location) → localOf (t .machines) emptyEntry ≡ startAt (topologyOf t) x
-unfolding localOf shortOf maskedTo startAt initial
-none t x = λ i. record { code = zero-mod (2 ^ t .machines) i; copy = 0; memory = 0 }
+loop-holds : tie.Need-loop-holds Inv-loop μ-loop
+loop-holds c = (refl, λ y. rw (le-ltb y 0 (omega arith)) (same 32 y emptyEntry))
 
--- So 32 of them stand for the state at the start.
-begun : (t : topology.Topology) → stateOf t startState ≡ start (topologyOf t)
-unfolding stateOf entryAt startState
-begun t =
-    ap expand (fun-ext (λ x. ap (localOf (t .machines)) (same 32 x emptyEntry) ∙ none t x))
-    ∙ sym (start-expand (topologyOf t))
+cast-y : tie.Need-cast-y Inv-loop μ-loop
+cast-y c = omega arith
 
-right : (t : topology.Topology) {s : state.State} → s ≡ startState
-    → (stateOf t s ≡ start (topologyOf t)) × (s ≡ startState)
-right t e = (ap (stateOf t) e ∙ begun t, e)
+mul-entries : tie.Need-mul-entries Inv-loop μ-loop
+mul-entries c = omega arith
 
-returns : tie.Need-returns
-unfolding startState
-returns c = right (c .args .t) refl
+array-set-from-entries : tie.Need-array-set-from-entries Inv-loop μ-loop
+array-set-from-entries c = omega arith
+
+add-at : tie.Need-add-at Inv-loop μ-loop
+add-at c = omega arith
+
+loop-less : tie.Need-loop-less Inv-loop μ-loop
+loop-less c = omega arith
+
+loop-again : tie.Need-loop-again Inv-loop μ-loop
+loop-again c =
+    let filled = c .before in
+    let l = filled .before .before .loop in
+    let sys = topologyOf (filled .before .before .before .args .t) in
+    let value = c .start .ensures ∙ ap startEntry (filled .initial .ensures) in
+    let next = one-more emptyEntry (λ y. startEntry (initial sys y)) (λ y. emptyEntry) (l .entries) (l .at) in
+    (length-set (l .entries) _ _ ∙ l .inv .0, next (l .inv .1) (omega (arith, l .inv .0)) _ value)
+
+-- What the entries at the start are is what they stand for.
+right : (t : topology.Topology) → length (t .homes) ≡ 32 → {s : state.State} → s ≡ startState t
+    → (stateOf t s ≡ start (topologyOf t)) × (s ≡ startState t)
+right t room e = (ap (stateOf t) e ∙ begun t room, e)
+
+returns : tie.Need-returns Inv-loop μ-loop
+returns c =
+    let h = c .before .before in
+    let l = c .before .loop in
+    right (h .args .t) (room h) (all-filled (h .args .t) (l .entries) (l .at) (l .inv .0) (omega arith) (l .inv .1))
 
 pub start-spec : {M : Type 1} → statement M
-start-spec = tie.close (tie.spec returns)
+start-spec =
+    tie.close
+    (tie.spec
+    Inv-loop
+    μ-loop
+    loop-holds
+    cast-y
+    nothing
+    nothing
+    mul-entries
+    array-set-from-entries
+    add-at
+    loop-less
+    loop-again
+    returns)
