@@ -1,9 +1,10 @@
 -- Laws of `Each`, and lists of bytes.
-use Prim.Native.Nat.{ℕ, zero, suc, _<_}
+use Prim.Native.Nat.{ℕ, zero, suc, _+_, _<_}
 use native.Mathlib.Nat.{le-of-suc-le-suc, not-suc-le-zero}
 use native.Mathlib.Omega.{arith}
 use mathlib.Core.List.{List, [], _∷_, _++_}
-use lib.ListN.{length, getD, take}
+use lib.ListN.{length, getD, take, drop}
+use lib.Seq.{getD-drop}
 use Rattle.log.specs.Records.{Each}
 use Rattle.log.specs.Bytes.{Bytes}
 
@@ -35,3 +36,7 @@ pub bytes-small : (s : List ℕ) → Bytes s → (i : ℕ) → getD s i 0 < 256
 bytes-small [] f i = omega arith
 bytes-small (b ∷ s) f zero = f .0
 bytes-small (b ∷ s) f (suc i) = bytes-small s (f .1) i
+
+-- What stands in it from any place on is bytes.
+pub small-from : (s : List ℕ) → Bytes s → (k i : ℕ) → getD (drop k s) i 0 < 256
+small-from s f k i = rw getD-drop (bytes-small s f (k + i))

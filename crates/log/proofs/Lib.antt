@@ -10,6 +10,7 @@ pub mod Payloads
 pub mod Encoded
 pub mod Growing
 pub mod Events
+pub mod Homes
 pub mod Members
 pub mod Order
 pub mod Gives
@@ -17,6 +18,7 @@ pub mod Skips
 pub mod Accepts
 pub mod Unique
 pub mod Systems
+pub mod ShortRows
 pub mod OneForm
 pub mod Lengths
 pub mod Bounded
