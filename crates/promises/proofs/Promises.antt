@@ -13,12 +13,13 @@ use lib.Dec.{T}
 use lib.ListN.{length, take, drop}
 use Rattle.model.specs.Cxl0.{Machine, Location, Value, Topology, WellFormed, start, Event, Action, after, Run, HasRun}
 use Rattle.model.specs.Cxl0.{events, silents, count, isStore, isLoad}
+use Rattle.model.specs.Zeroed as zeroed
 use Rattle.model.specs.Schedule.{Step, weave, schedule, inOrder}
 use Rattle.model.specs.MarkedLogs.{MarkedLog, logs}
 use Rattle.model.specs.MarkedLogs as marked
 use Rattle.model.proofs.Theorems
 use Rattle.log.specs.Records.{Records, systemOf, WithinLimits}
-use Rattle.log.specs.Bytes.{Bytes, field, encode}
+use Rattle.log.specs.Bytes.{Bytes, field, encode, ShortRows}
 use Rattle.log.specs.Reading.{Given, Outcome, nothing, admit, readFields, accepted, rejected, readLog}
 use Rattle.log.proofs.OneForm
 use Rattle.reader.specs.Answers as read
@@ -39,6 +40,7 @@ use Rattle.judge.specs.declared.Judged.{Judged}
 use Rattle.promises.proofs.Readings
 use Rattle.promises.proofs.Recordings
 use Rattle.promises.proofs.Judgements
+use Rattle.promises.proofs.ShortRows as short-rows
 
 -- ==== Demand 1: what is refused, and what is accepted
 
@@ -166,6 +168,12 @@ module _ (s f : List ℕ) (a : Replayed) (replayed : replay.answerOf a ≡ repla
       ↔ ((r : Records) × (ps : List Step) × Admitted s f r ps × Run (systemOf r) (weave (r .events) ps))
   replay-yes = rw replayed (Demand2.yes-exactly s f)
 
+  -- Where every row of a location has length 1, these are the runs of document 01, from zeroed memories.
+  pub replay-yes-short : (r : Records) → readLog s ≡ accepted r → ShortRows r
+      → (replay.answerOf a ≡ replaying.Answer.yes)
+      ↔ ((ps : List Step) × Admitted s f r ps × zeroed.Run (systemOf r) (weave (r .events) ps))
+  replay-yes-short r read short = short-rows.admitted-run r short s f read replay-yes
+
   -- No and k exactly when they are admitted and k events pass before the first thing not possible.
   pub replay-no : (k : ℕ)
       → (replay.answerOf a ≡ replaying.Answer.no k)
@@ -198,6 +206,18 @@ module _ (s out : List ℕ) (offset : ℕ) (scratch : List ℕ) (j : Judged) (ou
       → ((len : ℕ) × (answerOf j ≡ gives 0 e 0 len))
       ↔ (¬ HasRun (systemOf r) (take e (r .events)) × HasRun (systemOf r) (take (e - 1) (r .events)))
   impossible-exactly = Judgements.impossible-exactly s out offset scratch j out' scratch' judged fit r read
+
+  -- A log in which every row of a location has length 1 keeps its verdict: it is that of document 01, whose memories
+  -- start as zero.
+  pub allowed-exactly-short : ShortRows r
+      → ((steps len : ℕ) × (answerOf j ≡ gives 1 0 steps len)) ↔ zeroed.HasRun (systemOf r) (r .events)
+  allowed-exactly-short short = short-rows.has-run r short (r .events) allowed-exactly
+
+  pub impossible-exactly-short : ShortRows r → (e : ℕ)
+      → ((len : ℕ) × (answerOf j ≡ gives 0 e 0 len))
+      ↔ (¬ zeroed.HasRun (systemOf r) (take e (r .events)) × zeroed.HasRun (systemOf r) (take (e - 1) (r .events)))
+  impossible-exactly-short short e =
+      short-rows.no-run r short (take e (r .events)) (take (e - 1) (r .events)) (impossible-exactly e)
 
   -- The file of an allowed verdict gets yes from replay with that log.
   pub allowed-replays : (steps len : ℕ) → answerOf j ≡ gives 1 0 steps len

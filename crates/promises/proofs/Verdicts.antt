@@ -47,7 +47,7 @@ told-impossible (allowed ps) t = absurd (omega (arith, ap verdictOf t))
 told-impossible (impossible d) t = (ap impossible (ap eventOf t), ap lengthOf t)
 
 -- Two accepted readings of a log have the same records.
-same-records : {r q : Records} → accepted r ≡ accepted q → r ≡ q
+pub same-records : {r q : Records} → accepted r ≡ accepted q → r ≡ q
 same-records {r} {q} e = ap (records r) e
   where
     records : Records → Log → Records

@@ -2,18 +2,19 @@
 use Prim.Native.Nat.{ℕ}
 use native.Mathlib.Omega.{arith}
 use mathlib.Core.Path.{_≡_}
-use lib.ListN.{length, length-map}
+use lib.ListN.{length}
 use borrow.Author.Needs.{needs}
 use borrow.Author.Tests.{le-leb, lt-leb}
 use Rattle.model.specs.Meaning.{topologyOf}
 use Rattle.verdict_file.specs.Fitting.{stepFits}
+use Rattle.model.proofs.Limits.{mapped}
 use Rattle.schedules.proofs.Homes.{listed, unlisted, beyond, owner-of}
 use Rattle.schedules.proofs.checking.step_fits.Statement.{statement}
 use Rattle.schedules.proofs.checking.step_fits.Tie as tie
 
 -- What an array's type tells: how many elements it has.
 homes : (c : tie.Start) → length (c .args .t1 .homes) ≡ 32
-homes c = let own = c .good .0 .1 .1 .1 .1 .1 .0 in simp length-map at (own .1 .0 .1)
+homes c = search mapped
 
 returns : tie.Need-returns
 unfolding stepFits
@@ -55,4 +56,12 @@ returns-4 c =
 pub step-fits-spec : {M : Type 1} → statement M
 step-fits-spec =
     tie.close
-    (tie.spec (λ c. search needs) returns (λ c. search needs) returns-2 returns-3 (λ c. search needs) returns-4)
+    (tie.spec
+    (λ c. search needs)
+    returns
+    (λ c. search needs)
+    returns-2
+    returns-3
+    (λ c. search needs)
+    (λ c. search needs)
+    returns-4)
