@@ -1,7 +1,7 @@
 #!/usr/bin/env python3
 """`cases` prints the cases of replay in crates/cases/stdin. `answers` reads those lines and prints what the program
 must print, by a schedule reader and a replay of the whole system of its own, written from document 01 and requests
-W-201 and W-203 alone."""
+W-201 to W-203 alone."""
 import sys
 
 sys.dont_write_bytecode = True
@@ -13,11 +13,12 @@ from format_reference import Refused, asked, members, whole
 class System:
     """Caches and memories; each event and each step says whether it is possible, and then changes the state."""
 
-    def __init__(self, machines, persistent, owners):
+    def __init__(self, machines, persistent, owners, initial):
         self.owners = owners
+        self.initial = initial
         self.persistent = persistent
         self.caches = {i: {} for i in range(1, machines + 1)}
-        self.memory = [0] * len(owners)
+        self.memory = list(initial)
 
     def copies(self, x):
         return [cache[x] for cache in self.caches.values() if x in cache]
@@ -49,7 +50,8 @@ class System:
             for down in members(x) if operation == 11 else [i]:
                 self.caches[down] = {}
                 if not self.persistent >> (down - 1) & 1:
-                    self.memory = [0 if k == down else m for k, m in zip(self.owners, self.memory)]
+                    homes = zip(self.owners, self.initial, self.memory)
+                    self.memory = [v if k == down else m for k, v, m in homes]
         return True
 
     def step(self, x, i):
@@ -90,7 +92,7 @@ def replay(log, file):
         steps = schedule(file, records)
     except Refused as why:
         return f"number {why}"
-    system = System(records.machines, records.persistent, records.owners)
+    system = System(records.machines, records.persistent, records.owners, records.initial)
     for passed in range(len(records.events) + 1):
         while steps and steps[0][0] == passed:
             if not system.step(*steps.pop(0)[1:]):
@@ -123,8 +125,14 @@ def event(operation, i, x, *values):
     return field(0x05 if len(values) == 2 else 0x03, operation, i, x, *numbers)
 
 
-def log(machines, persistent, owners, events):
-    body = b"".join(field(0x02, k) for k in owners)
+def row(owner, initial=0):
+    """The long form where there is an initial value."""
+    return field(0x02, owner, *([initial % 256, initial // 256] if initial else []))
+
+
+def log(machines, persistent, homes, events):
+    """A home is an owner, or an owner and an initial value."""
+    body = b"".join(row(*home) if isinstance(home, tuple) else row(home) for home in homes)
     body += b"".join(event(*e) for e in events)
     return field(0x01, machines, persistent) + body + END
 
@@ -158,8 +166,8 @@ def together(*machines):
     return SET_CRASH, 0, sum(1 << i - 1 for i in machines), 0
 
 
-def three(owners, *events):
-    return log(3, 7, owners, events)
+def three(homes, *events):
+    return log(3, 7, homes, events)
 
 
 MARKED = {
@@ -267,6 +275,66 @@ def set_crash_cases():
     show("RMWs between set crashes, volatile memory", log(3, 0, [3], again), file([]))
 
 
+def initial_value_cases():
+    filled, crash_of_2 = [(2, 7)], (CRASH, 2, 0, 0)
+    for initial, values in ((7, (7, 0)), (0x0102, (0x0102, 0x0201, 2)), (255, (255, 65280)), (256, (256, 1)),
+                            (65535, (65535, 0))):
+        for value in values:
+            read = three([(2, initial)], (LOAD, 1, 0, value))
+            show(f"initial value {initial}, a load of {value} first", read, file([]))
+    for kept, memory in ((0, "volatile"), (7, "persistent")):
+        for value in (7, 0, 5):
+            stored = [(M_STORE, 1, 0, 5), crash_of_2, (LOAD, 1, 0, value)]
+            show(f"initial value 7, MStore of 5, crash of the {memory} owner, a load of {value}",
+                 log(3, kept, filled, stored), file([]))
+        for value in (7, 5):
+            stored = [(M_STORE, 1, 0, 5), (CRASH, 3, 0, 0), (LOAD, 1, 0, value)]
+            show(f"initial value 7, MStore of 5, crash of another than the {memory} owner, a load of {value}",
+                 log(3, kept, filled, stored), file([]))
+        show(f"initial value 7, crash of the {memory} owner first",
+             log(3, kept, filled, [crash_of_2, (LOAD, 1, 0, 7)]), file([]))
+        show(f"initial value 7, crash of the {memory} owner first, a load of 0",
+             log(3, kept, filled, [crash_of_2, (LOAD, 1, 0, 0)]), file([]))
+    read = three(filled, (LOAD, 1, 0, 7), (L_FLUSH, 1, 0, 0), (R_FLUSH, 3, 0, 0), (LOAD, 2, 0, 7))
+    show("a load of the initial value leaves no copy", read, file([]))
+    show("no copy of the initial value is there to move", read, file([(1, 0, 1)]))
+    show("no copy of the initial value is there to write back", read, file([(0, 0, 0)]))
+    lost = [(L_STORE, 1, 0, 5), (L_FLUSH, 1, 0, 0), crash_of_2, (LOAD, 1, 0, 7)]
+    changed("a copy lost before its write-back over an initial value", three(filled, *lost), [(1, 0, 1)])
+    changed("a copy lost with its volatile owner, the initial value again", log(3, 0, filled, lost), [(1, 0, 1)])
+    kept = [(L_STORE, 1, 0, 5), (R_FLUSH, 1, 0, 0), crash_of_2, (LOAD, 3, 0, 5)]
+    changed("a write-back over an initial value", three(filled, *kept), [(1, 0, 1), (1, 0, 0)])
+    for value in (7, 5):
+        gone = log(3, 0, filled, kept[:3] + [(LOAD, 3, 0, value)])
+        show(f"a write-back lost with its volatile owner, a load of {value}", gone, file([(1, 0, 1), (1, 0, 0)]))
+    later = log(3, 0, filled, [(L_STORE, 1, 0, 5), crash_of_2, (R_FLUSH, 3, 0, 0), (LOAD, 3, 0, 5)])
+    changed("a write-back over an initial value that is there again", later, [(2, 0, 1), (2, 0, 0)])
+    same = log(3, 0, filled, [(L_STORE, 1, 0, 7), (R_FLUSH, 3, 0, 0), (L_STORE, 3, 0, 0), crash_of_2, (LOAD, 2, 0, 7)])
+    for words, steps in (("moved before the crash", [(3, 0, 3)]), ("not moved", [])):
+        show(f"the initial value stored, and then 0, {words}", same, file([(1, 0, 1), (1, 0, 0), *steps]))
+    down = [(M_STORE, 3, x, 5) for x in (0, 1)] + [together(1, 2)]
+    for words, homes in (("L0 of 1 initially 7, L1 of 2 initially 9", [(1, 7), (2, 9)]),
+                         ("L0 of 1 initially 7, L1 of 1 initially 9", [(1, 7), (1, 9)]),
+                         ("L0 of 1 initially 7, L1 of 2", [(1, 7), 2])):
+        for values in ((7, 9), (9, 7), (7, 0), (0, 0)):
+            show(f"{words}, MStores of 5, crash of 1 and 2 in one step, loads of {values}",
+                 log(3, 0, homes, down + [(LOAD, 3, x, v) for x, v in enumerate(values)]), file([]))
+    mixed = [(M_STORE, 1, x, x + 1) for x in range(3)] + [together(1, 2)]
+    for values in ((7, 2, 3), (1, 2, 3), (7, 8, 3), (7, 2, 9), (0, 2, 3)):
+        show(f"initially 7, 8 and 9, volatile 1 and persistent 2 in the set, volatile 3 outside, loads of {values}",
+             log(3, 2, [(1, 7), (2, 8), (3, 9)], mixed + [(LOAD, 3, x, v) for x, v in enumerate(values)]), file([]))
+    for form, letter in ((L_RMW, "L"), (R_RMW, "R"), (M_RMW, "M")):
+        show(f"{letter}-RMW of the initial value", three(filled, (form, 1, 0, 7, 8), (LOAD, 3, 0, 8)), file([]))
+        show(f"{letter}-RMW of 0 in place of the initial value", three(filled, (form, 1, 0, 0, 8)), file([]))
+        again = [(form, 1, 0, 7, 8), together(1, 2), (form, 3, 0, 7, 9)]
+        for kept, memory in ((0, "volatile"), (7, "persistent")):
+            show(f"{letter}-RMW of the initial value, set crash with the {memory} owner, again of the initial value",
+                 log(3, kept, filled, again), file([]))
+    every = log(6, 0, [(x % 6 + 1, 0x0102 * x + 1) for x in range(32)],
+                [together(*range(1, 7))] + [(LOAD, 1, x, 0x0102 * x + 1) for x in range(32)])
+    show("32 initial values, each read after a set crash", every, file([]))
+
+
 def refused_schedules():
     it = MARKED[4]
     step = field(0x11, 1, 0, 1)
@@ -330,11 +398,17 @@ def refused_logs():
             ("a set crash with a machine: 11", three([1], (SET_CRASH, 1, 3, 0))),
             ("a set crash of one machine: 15", three([1], together(2))),
             ("a set crash with an absent machine: 15", three([1], together(1, 2, 4))),
+            ("an initial value 0 in the long form: 14", three([1])[:-3] + field(0x02, 1, 0, 0) + END),
+            ("owner 4 of 3 with an initial value: 6", three([(4, 7)])),
+            ("owner 4 of 3 with an initial value 0: 6", three([1])[:-3] + field(0x02, 4, 0, 0) + END),
+            ("a location of length 2: 4", three([1])[:-3] + field(0x02, 1, 7) + END),
+            ("an initial value that is cut: 2", three([(1, 7)])[:-4]),
             ("a byte after the end: 12", three([1]) + b"\0")]:
         show(f"log: {words}", data, good)
     show("log: owner 4 of 3, before the schedule's 13: 6", three([4]), bad)
     show("log: a byte after the end, before the schedule's 13: 12", three([1]) + b"\0", bad)
     show("log: a set crash of no machine, before the schedule's 13: 15", three([1], together()), bad)
+    show("log: an initial value 0, before the schedule's 13: 14", field(0x01, 3, 7) + field(0x02, 1, 0, 0) + END, bad)
 
 
 def drawn(state):
@@ -344,17 +418,21 @@ def drawn(state):
         yield state // 65536
 
 
-def drawn_cases(numbers, state, operations):
+def drawn_cases(numbers, state, operations, read=(0, 1), written=(0, 1, 2), initial=(0,)):
     draw = drawn(state)
 
     def below(n):
         return next(draw) % n
 
+    def one_of(values):
+        return values[below(len(values))] if len(values) > 1 else values[0]
+
     for number in numbers:
         n = 2 + below(3)
         persistent = below(2 ** n)
         owners = [1 + below(n) for _ in range(1 + below(2))]
-        system, events, steps = System(n, persistent, owners), [], []
+        filled = [one_of(initial) for _ in owners]
+        system, events, steps = System(n, persistent, owners, filled), [], []
 
         def draw_step():
             x, i = below(len(owners)), below(n + 1)
@@ -363,8 +441,8 @@ def drawn_cases(numbers, state, operations):
                 steps.append((len(events), x, i))
 
         def draw_event():
-            op, i, x, v = 1 + below(operations), 1 + below(n), below(len(owners)), below(2)
-            values = (v, below(3)) if op in (L_RMW, R_RMW, M_RMW) else (v if op < L_FLUSH else 0,)
+            op, i, x, v = 1 + below(operations), 1 + below(n), below(len(owners)), one_of(read)
+            values = (v, one_of(written)) if op in (L_RMW, R_RMW, M_RMW) else (v if op < L_FLUSH else 0,)
             one = (op, i, x if op != CRASH else 0, *values)
             if op == SET_CRASH:
                 one = together(i, i % n + 1, *[k for k in range(1, n + 1) if k not in (i, i % n + 1) and below(2)])
@@ -373,7 +451,7 @@ def drawn_cases(numbers, state, operations):
 
         for _ in range(20):
             (draw_step if below(2) else draw_event)()
-        show(f"drawn {number}", log(n, persistent, owners, events), file(steps))
+        show(f"drawn {number}", log(n, persistent, list(zip(owners, filled)), events), file(steps))
 
 
 def cases():
@@ -381,11 +459,14 @@ def cases():
     edge_cases()
     rmw_cases()
     set_crash_cases()
+    initial_value_cases()
     refused_schedules()
     refused_logs()
     drawn_cases(range(1, 61), 4, CRASH)
     drawn_cases(range(61, 71), 5, M_RMW)
     drawn_cases(range(71, 79), 7, SET_CRASH)
+    bytes_differ = (0, 0x0102, 0x0201)
+    drawn_cases(range(79, 89), 8, SET_CRASH, bytes_differ, bytes_differ, bytes_differ)
 
 
 {"cases": cases, "answers": answers}[sys.argv[1]]()
