@@ -15,8 +15,9 @@ def head(machines, persistent):
     return field(0x01, machines, persistent)
 
 
-def row(owner):
-    return field(0x02, owner)
+def row(owner, initial=0):
+    """The long form where there is an initial value."""
+    return field(0x02, owner, *([initial % 256, initial // 256] if initial else []))
 
 
 def event(operation, machine, location=0, *values):
@@ -33,11 +34,13 @@ def together(*machines):
 END = field(0x04)
 
 
-def log(owners, events, machines=3, persistent=None):
-    """The log of a system with these owners; all machines are persistent unless said."""
+def log(homes, events, machines=3, persistent=None):
+    """The log of a system with these homes, an owner or an owner and an initial value each; all machines are persistent
+    unless said."""
     everyone = (1 << machines) - 1
     kinds = everyone if persistent is None else persistent
-    return head(machines, kinds) + b"".join(map(row, owners)) + b"".join(event(*e) for e in events) + END
+    rows = b"".join(row(*home) if isinstance(home, tuple) else row(home) for home in homes)
+    return head(machines, kinds) + rows + b"".join(event(*e) for e in events) + END
 
 
 def case(name, expected, data, output=LONGEST, offset=0, scratch=WORDS):
@@ -253,7 +256,114 @@ def set_crash_logs():
          log([2], turns + [together(1, 2, 3), (LOAD, 1, 0, 12)], persistent=0))
 
 
-def full(last):
+def initial_value_logs():
+    """Initial values: memories have them at the start, and volatile ones again after a crash of their owner."""
+    for initial, others in ((7, [0]), (1, [0, 256]), (255, [65280]), (256, [1]), (0x0102, [0x0201, 2]), (65535, [0])):
+        case(f"initial-{initial}", "an initial value that is read: allowed, no steps",
+             log([(2, initial)], [(LOAD, 1, 0, initial), (LOAD, 2, 0, initial)]))
+        for other in others:
+            case(f"initial-{initial}-{other}", f"a load of {other} where the initial value is {initial}: impossible, 1",
+                 log([(2, initial)], [(LOAD, 1, 0, other)]))
+    outcomes = {  # form, whether the storing machine crashes with the owner, whether the owner is persistent: the
+        # outcomes of loads of the initial value 7 and of the value stored, 5
+        ("L", False, False): ("allowed, one step", "allowed, no steps"),
+        ("L", False, True): ("allowed, one step", "allowed, no steps"),
+        ("L", True, False): ("allowed, no steps", "impossible, 3"),
+        ("L", True, True): ("allowed, no steps", "allowed, two steps"),
+        ("R", False, False): ("allowed, no steps", "impossible, 3"),
+        ("R", False, True): ("allowed, no steps", "allowed, one step"),
+        ("R", True, False): ("allowed, no steps", "impossible, 3"),
+        ("R", True, True): ("allowed, no steps", "allowed, one step"),
+        ("M", False, False): ("allowed, no steps", "impossible, 3"),
+        ("M", False, True): ("impossible, 3", "allowed, no steps"),
+        ("M", True, False): ("allowed, no steps", "impossible, 3"),
+        ("M", True, True): ("impossible, 3", "allowed, no steps")}
+    for (letter, both, kept), results in outcomes.items():
+        form = {"L": LSTORE, "R": RSTORE, "M": MSTORE}[letter]
+        crash, which = (together(1, 2), "set") if both else ((CRASH, 2), "owner")
+        memory = "persistent" if kept else "volatile"
+        for value, outcome in zip((7, 5, 0), results + ("impossible, 3",)):
+            case(f"initial-{letter}-{which}-{memory}-{value}", f"initially 7, {letter}Store of 5, crash of the "
+                 f"{memory} owner{' and the storing machine' if both else ''}, load of {value}: {outcome}",
+                 log([(2, 7)], [(form, 1, 0, 5), crash, (LOAD, 3, 0, value)], persistent=0b111 if kept else 0))
+    for name, crash in (("one", (CRASH, 3)), ("set", together(1, 3))):
+        for value, outcome in ((5, "allowed, no steps"), (7, "impossible, 3")):
+            case(f"initial-other-{name}-{value}", f"a volatile memory, and crashes of other machines, load of {value}: "
+                 f"{outcome}", log([(2, 7)], [(MSTORE, 1, 0, 5), crash, (LOAD, 1, 0, value)], persistent=0))
+        first = (CRASH, 2) if name == "one" else together(2, 3)
+        for value, outcome in ((7, "allowed, no steps"), (0, "impossible, 2")):
+            case(f"initial-first-{name}-{value}", f"a crash of a volatile owner first, load of {value}: {outcome}",
+                 log([(2, 7)], [first, (LOAD, 1, 0, value)], persistent=0))
+    case("initial-alone", "initial values and no events: allowed, no steps", log([(1, 7), 2, (3, 65535)], []))
+    case("initial-crashes", "initial values and crashes alone: allowed, no steps",
+         log([(1, 7), 2, (3, 65535)], [(CRASH, 1), together(1, 2, 3), (CRASH, 3)], persistent=0))
+    case("initial-flushed", "no cache has the initial value: allowed, no steps",
+         log([(2, 7)], [(LFLUSH, 1, 0), (RFLUSH, 1, 0), (LOAD, 1, 0, 7), (LFLUSH, 1, 0), (RFLUSH, 3, 0)]))
+    case("initial-lost", "LStore and LFlush by another machine, crash of the owner, load of 7: allowed, one step",
+         log([(2, 7)], [(LSTORE, 1, 0, 1), (LFLUSH, 1, 0), (CRASH, 2), (LOAD, 1, 0, 7)]))
+    case("initial-lost-0", "the same and 0: impossible, 4",
+         log([(2, 7)], [(LSTORE, 1, 0, 1), (LFLUSH, 1, 0), (CRASH, 2), (LOAD, 1, 0, 0)]))
+    case("initial-RFlush", "the same with RFlush and the initial value: impossible, 4",
+         log([(2, 7)], [(LSTORE, 1, 0, 1), (RFLUSH, 1, 0), (CRASH, 2), (LOAD, 1, 0, 7)]))
+    case("initial-RFlush-volatile", "the same with a volatile owner: allowed, two steps",
+         log([(2, 7)], [(LSTORE, 1, 0, 1), (RFLUSH, 1, 0), (CRASH, 2), (LOAD, 1, 0, 7)], persistent=0))
+    passed_on = [(LOAD, 2, 0, 1), (RSTORE, 2, 1, 1), (CRASH, 2), (LOAD, 1, 1, 1), (LOAD, 1, 0, 7)]
+    case("initial-passed-on", "a value read, passed on and lost, initially 7 and 9: allowed",
+         log([(2, 7), (1, 9)], [(RSTORE, 1, 0, 1)] + passed_on))
+    case("initial-passed-on-9", "the same, and the other location's initial value: impossible, 6",
+         log([(2, 7), (1, 9)], [(RSTORE, 1, 0, 1)] + passed_on[:-1] + [(LOAD, 1, 0, 9)]))
+    case("initial-apart", "two crashes one after the other, the first of a volatile owner: allowed, one step",
+         log([(1, 7)], [(LSTORE, 2, 0, 5), (CRASH, 1), (CRASH, 2), (LOAD, 2, 0, 5)], machines=2, persistent=0b10))
+    case("initial-apart-back", "the same crashes in the other order: impossible, 4",
+         log([(1, 7)], [(LSTORE, 2, 0, 5), (CRASH, 2), (CRASH, 1), (LOAD, 2, 0, 5)], machines=2, persistent=0b10))
+    case("initial-after-crash", "a copy that moves and is written back after the crash of a volatile owner: allowed",
+         log([(2, 7)], [(LSTORE, 1, 0, 5), (CRASH, 2), (RFLUSH, 3, 0), (LOAD, 3, 0, 5)], persistent=0))
+    case("initial-stored", "the initial value is stored, and read after a crash of the storing machine: allowed",
+         log([(2, 7)], [(MSTORE, 3, 0, 0), (LSTORE, 1, 0, 7), (CRASH, 1), (LOAD, 3, 0, 7)]))
+    for value, outcome in ((7, "allowed"), (1, "allowed"), (2, "allowed"), (0, "impossible, 4"), (3, "impossible, 4")):
+        case(f"initial-memory-{value}", f"one of several values that memory may have: {outcome}",
+             log([(1, 7)], [(RSTORE, 2, 0, 1), (RSTORE, 2, 0, 2), (CRASH, 1), (LOAD, 3, 0, value)]))
+    stores = [(MSTORE, 3, x, 5) for x in range(3)]
+    loads = {"7-9-0": "allowed, no steps", "9-9-0": "impossible, 5", "7-7-0": "impossible, 6", "7-9-7": "impossible, 7",
+             "0-0-0": "impossible, 5", "5-9-0": "impossible, 5"}
+    for owners, words, crash in (((1, 1, 1), "one owner", (CRASH, 1)), ((1, 2, 1), "two owners", together(1, 2))):
+        homes = [(owners[0], 7), (owners[1], 9), owners[2]]
+        for values, outcome in loads.items():
+            read = [(LOAD, 3, x, int(v)) for x, v in enumerate(values.split("-"))]
+            case(f"initial-{words.replace(' ', '-')}-{values}", f"locations of {words}, initially 7, 9 and 0, all "
+                 f"lost, loads of {values.replace('-', ', ')}: {outcome}",
+                 log(homes, stores + [crash] + read, persistent=0))
+    mixed = [(MSTORE, 1, x, x + 1) for x in range(4)] + [together(1, 2, 4)]
+    for values, outcome in (((11, 2, 3, 14), "allowed, no steps"), ((1, 2, 3, 14), "impossible, 6"),
+                            ((11, 12, 3, 14), "impossible, 7"), ((11, 2, 13, 14), "impossible, 8"),
+                            ((11, 2, 3, 0), "impossible, 9"), ((11, 2, 3, 11), "impossible, 9")):
+        read = [(LOAD, 3, x, v) for x, v in enumerate(values)]
+        case(f"initial-mixed-{'-'.join(map(str, values))}", "initially 11 to 14, owners 1, 2 and 4 in the set, 2 "
+             f"persistent, a volatile owner 3 outside, loads of {', '.join(map(str, values))}: {outcome}",
+             log([(k, 10 + k) for k in (1, 2, 3, 4)], mixed + read, machines=4, persistent=0b0010))
+    for form, letter, outcome in ((LRMW, "L", "allowed, no steps"), (RRMW, "R", "allowed, no steps"),
+                                  (MRMW, "M", "impossible, 3")):
+        again = [(form, 1, 0, 7, 8), together(1, 3), (form, 2, 0, 7, 8)]
+        case(f"initial-rmw-{letter}", f"7 to 8 by {letter}-RMW, set crash with the owner, again 7 to 8: {outcome}",
+             log([(3, 7)], again))
+        case(f"initial-rmw-{letter}-volatile", "the same with a volatile owner: allowed, no steps",
+             log([(3, 7)], again, persistent=0))
+        case(f"initial-rmw-{letter}-volatile-0", "the same, and the last reads 0: impossible, 3",
+             log([(3, 7)], again[:2] + [(form, 2, 0, 0, 8)], persistent=0))
+        case(f"initial-rmw-{letter}-0", f"an {letter}-RMW that reads 0 where the initial value is 7: impossible, 1",
+             log([(3, 7)], [(form, 1, 0, 0, 8)]))
+        case(f"initial-rmw-{letter}-chain", f"three {letter}-RMWs, the first of the initial value, both bytes: allowed",
+             log([(3, 0x0102)], [(form, 1, 0, 0x0102, 0x0201), (form, 2, 0, 0x0201, 0x0102), (form, 3, 0, 0x0102, 0)]))
+    turns = [e for n in range(1, 13) for e in ((LSTORE, 1, 0, n), together(1, 2), (LOAD, 3, 0, 7))]
+    case("initial-turns", "12 values that are lost with the volatile owner, and then 0: impossible, 38",
+         log([(2, 7)], turns + [(CRASH, 2), (LOAD, 1, 0, 0)], persistent=0))
+    back = [(LSTORE, 2, 0, 1), together(2, 3), (LSTORE, 3, 0, 2), together(1, 3), (LSTORE, 2, 0, 3), together(1, 2)]
+    case("initial-back", "several set crashes, and the initial value: allowed",
+         log([(1, 7)], back + [(LOAD, 3, 0, 7), (RFLUSH, 3, 0), together(1, 2, 3), (LOAD, 3, 0, 7)]))
+    case("initial-back-0", "the same and 0: impossible, 7", log([(1, 7)], back + [(LOAD, 3, 0, 0)]))
+
+
+def full(last, initial=(0,) * 32):
     """128 events on 32 locations of six machines, three of them volatile: each location is stored, read elsewhere, put
     through a crash of every machine, read again and flushed; the last event is as given."""
     owners = [x % 6 + 1 for x in range(32)]
@@ -262,9 +372,9 @@ def full(last):
     events = [(LSTORE, others[x], x, 1000 + x) for x in range(32)]
     events += [(LOAD, others[x] % 6 + 1, x, 1000 + x) for x in range(32)]
     events += [(CRASH, machine) for machine in range(1, 7)]
-    events += [(LOAD, 1, x, (1000 + x) * (kept >> owners[x] - 1 & 1)) for x in range(32)]
+    events += [(LOAD, 1, x, 1000 + x if kept >> owners[x] - 1 & 1 else initial[x]) for x in range(32)]
     events += [(RFLUSH, 1, x) for x in range(25)]
-    return log(owners, events + [last], machines=6, persistent=kept)
+    return log(zip(owners, initial), events + [last], machines=6, persistent=kept)
 
 
 def large_logs():
@@ -281,6 +391,19 @@ def large_logs():
          log([2] * 32, stores + [(CRASH, 1), (CRASH, 2)] + loads + flushes + flushes))
     case("events-128", "128 events pass", log([1], [(LSTORE, 1, 0, 1)] * 128))
     case("locations-32", "32 locations pass", log([1] * 32, []))
+    filled = [(x % 6 + 1, 0x0101 * x + 0x0100) for x in range(32)]
+    read = [(LOAD, 1 + x % 5, x, 0x0101 * x + 0x0100) for x in range(32)]
+    lost = [(MSTORE, 6, x, 1) for x in range(32)] + [together(*range(1, 7))]
+    case("initial-32", "32 locations with initial values, at the start and after all crash: allowed, no steps",
+         log(filled, read + lost + read, machines=6, persistent=0))
+    case("initial-32-last", "the same, and the last load is of the initial value of the one before: impossible, 97",
+         log(filled, read + lost + read[:-1] + [(LOAD, 1, 31, 0x0101 * 30 + 0x0100)], machines=6, persistent=0))
+    values = [initial for _, initial in filled]
+    case("initial-full", "128 events and 32 locations with initial values: allowed", full((LOAD, 6, 31, 1031), values))
+    quarters = [(LRMW, 0), (RRMW, 1), (MRMW, 2), (LRMW, 3)]
+    events = [(form, 6 - x % 6, x, filled[x][1] + n, filled[x][1] + n + 1) for form, n in quarters for x in range(32)]
+    case("initial-longest", "32 initial values and 128 read-modify-writes, 1,480 bytes: allowed",
+         log(filled, events, machines=6, persistent=0b010101))
 
 
 def refusals():
@@ -313,6 +436,18 @@ def refusals():
     case("refused-11-set", "a set crash with a machine, before its empty set: number 11", log([1], [(SETCRASH, 1, 0)]))
     case("refused-11-set-value", "a set crash with a value: number 11", log([1], [together(1, 2) + (256,)]))
     case("refused-12", "a byte after the end: number 12", good + b"\0")
+    zero = field(0x02, 1, 0, 0)
+    case("refused-14", "an initial value 0 in the long form: number 14", head(3, 7) + zero + END)
+    case("refused-14-second", "the same in a second location: number 14", head(3, 7) + row(1, 7) + zero + END)
+    case("refused-14-first", "an initial value 0, before an owner 4 of 3: number 14", head(3, 7) + zero + row(4) + END)
+    case("refused-14-tail", "the same, before a byte after the end: number 14", head(3, 7) + zero + END + b"\0")
+    case("refused-2-initial", "an initial value without its high byte: number 2", head(3, 7) + row(1, 7)[:-1])
+    case("refused-3-initial", "a location with an initial value 0 after an event: number 3", good[:-3] + zero + END)
+    case("refused-4-initial", "a location of length 4: number 4", head(3, 7) + field(0x02, 1, 0, 0, 0) + END)
+    case("refused-6-initial", "owner 4 of 3 with an initial value: number 6", log([(4, 7)], []))
+    case("refused-6-zero", "owner 4 of 3 with an initial value 0: number 6", head(3, 7) + field(0x02, 4, 0, 0) + END)
+    case("refused-7-initial", "a 33rd location, with an initial value 0: number 7", log([1] * 32, [])[:-3] + zero + END)
+    case("refused-10-initial", "location 2 of 2 with initial values: number 10", log([(1, 7)] * 2, [(LOAD, 1, 2, 7)]))
     case("refused-15", "a set crash of no machine, before its value: number 15", log([1], [(SETCRASH, 0, 0, 1)]))
     case("refused-15-one", "a set crash of machine 2 alone: number 15", log([1], [together(2)]))
     case("refused-15-absent", "a set crash of machines 1, 2 and 4 of 3: number 15", log([1], [together(1, 2, 4)]))
@@ -342,12 +477,22 @@ def areas():
          full((LOAD, 6, 31, 1031)), 4000, 2456, 5000)
     case("short-first", "a short output before a refused log: number 1", b"", output=1543)
     case("short-scratch-first", "a short scratch area before a refused log: number 1", b"", scratch=4095)
+    lost = [(LSTORE, 1, 0, 5), (LFLUSH, 1, 0), (CRASH, 2)]
+    case("initial-offset", "an initial value, an offset and a larger scratch area: allowed, one step",
+         log([(2, 7)], lost + [(LOAD, 1, 0, 7)], persistent=0), 4000, 1000, 5000)
+    case("initial-offset-0", "the same with a load of 0: impossible, 4",
+         log([(2, 7)], lost + [(LOAD, 1, 0, 0)], persistent=0), 4000, 1000, 5000)
+    zero = head(3, 7) + field(0x02, 1, 0, 0) + END
+    case("initial-offset-refused", "an initial value 0, at an offset: number 14", zero, 4000, 1000, 5000)
+    case("initial-output-short", "a short output before an initial value 0: number 1", zero, output=1543)
+    case("initial-scratch-short", "a short scratch area before an initial value 0: number 1", zero, scratch=4095)
 
 
 marked_logs()
 small_logs()
 rmw_logs()
 set_crash_logs()
+initial_value_logs()
 large_logs()
 refusals()
 areas()

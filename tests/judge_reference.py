@@ -1,7 +1,7 @@
 #!/usr/bin/env python3
 """judge_reference.py STDIN STDOUT: is STDOUT what crates/cases must print on STDIN, the judge's cases?
 
-Each log is judged anew, from document 01 and requests W-201 and W-203 alone: a location at a time, forward, with every
+Each log is judged anew, from document 01 and requests W-201 to W-203 alone: a location at a time, forward, with every
 state that its silent steps can reach. A schedule that was printed is replayed on the whole system. The exit status is 0
 only where nothing is wrong."""
 import sys
@@ -56,13 +56,18 @@ def write_back(owner, state):
     return None if value is None else ((None,) * len(caches), value)
 
 
-def after(records, owner, event, state):
-    """The state after an event of the location, or a crash; None where the event is not possible."""
+def start(records, x):
+    return (None,) * records.machines, records.initial[x]
+
+
+def after(records, x, event, state):
+    """The state of location x after an event of it, or a crash; None where the event is not possible."""
     operation, machine, location, value, *written = event
     if operation in STORE_OF:
-        loaded = after(records, owner, (LOAD, machine, location, value), state)
+        loaded = after(records, x, (LOAD, machine, location, value), state)
         store = (STORE_OF[operation], machine, location, *written)
-        return None if loaded is None else after(records, owner, store, loaded)
+        return None if loaded is None else after(records, x, store, loaded)
+    owner = records.owners[x]
     caches, memory = state
     nobody = (None,) * len(caches)
     if operation == LSTORE:
@@ -83,7 +88,7 @@ def after(records, owner, event, state):
     down = members(location) if operation == SETCRASH else [machine]
     for machine in down:
         caches = without(caches, machine)
-    return caches, 0 if owner in down and volatile(records, owner) else memory
+    return caches, records.initial[x] if owner in down and volatile(records, owner) else memory
 
 
 def silently(owner, states):
@@ -109,11 +114,11 @@ def concerns(event, location):
 def first_impossible_at(records, location):
     """The least e such that the first e events have no run at this location, or None."""
     owner = records.owners[location]
-    states = {((None,) * records.machines, 0)}
+    states = {start(records, location)}
     for e, event in enumerate(records.events, 1):
         if concerns(event, location):
             reached = silently(owner, states)
-            states = {new for state in reached if (new := after(records, owner, event, state)) is not None}
+            states = {new for state in reached if (new := after(records, location, event, state)) is not None}
             if not states:
                 return e
     return None
@@ -129,7 +134,7 @@ def first_impossible(records):
 
 def replays(records, steps):
     """Whether events and steps, each step after so many events, are a run."""
-    states = [((None,) * records.machines, 0) for _ in records.owners]
+    states = [start(records, x) for x in range(len(records.owners))]
     at = 0
     for passed in range(len(records.events) + 1):
         while at < len(steps) and steps[at][0] == passed:
@@ -142,9 +147,9 @@ def replays(records, steps):
             at += 1
         if passed < len(records.events):
             event = records.events[passed]
-            for x, owner in enumerate(records.owners):
+            for x, state in enumerate(states):
                 if concerns(event, x):
-                    states[x] = after(records, owner, event, states[x])
+                    states[x] = after(records, x, event, state)
                     if states[x] is None:
                         return False
     return at == len(steps)
