@@ -4,9 +4,8 @@ use Prim.Native.Nat.{ℕ}
 use mathlib.Core.Path.{_≡_, sym, _∙_}
 use mathlib.Core.Logic.{_↔_}
 use mathlib.Core.List.{List}
-use Rattle.model.specs.Cxl0.{Event, Run, HasRun}
+use Rattle.model.specs.Cxl0.{Event, Action, Run, HasRun}
 use Rattle.model.specs.Zeroed as zeroed
-use Rattle.model.specs.Zeroed.{WakesAsZero}
 use Rattle.model.specs.Schedule.{Step, weave}
 use Rattle.model.proofs.Theorems.{zero-run, zero-has-run}
 use Rattle.log.specs.Records.{Records, systemOf}
@@ -23,6 +22,9 @@ module _ (r : Records) (short : ShortRows r) where
   same : (es : List Event) → HasRun (systemOf r) es ↔ HasZeroRun es
   same = zero-has-run (systemOf r) (short-rows-zero r short)
 
+  same-run : (acts : List Action) → Run (systemOf r) acts ↔ zeroed.Run (systemOf r) acts
+  same-run = zero-run (systemOf r) (short-rows-zero r short)
+
   -- What says that events have a run, or that some have none and others have one, says so of document 01's runs.
   pub has-run : {A : Type 0} (es : List Event) → A ↔ HasRun (systemOf r) es → A ↔ HasZeroRun es
   has-run es h = (λ a. same es .0 (h .0 a), λ run. h .1 (same es .1 run))
@@ -38,11 +40,10 @@ module _ (r : Records) (short : ShortRows r) where
   pub admitted-run : {A : Type 0} (s f : List ℕ) → readLog s ≡ accepted r
       → A ↔ ((q : Records) × (ps : List Step) × Admitted s f q ps × Run (systemOf q) (weave (q .events) ps))
       → A ↔ ((ps : List Step) × Admitted s f r ps × zeroed.Run (systemOf r) (weave (r .events) ps))
-  admitted-run s f read h =
-      let both = λ (ps : List Step). zero-run (systemOf r) (short-rows-zero r short) (weave (r .events) ps) in (
-        λ a.
-            let (q, ps, admitted, run) = h .0 a in
-            let e = same-records (sym (admitted .log) ∙ read) in
-            (ps, rw e at admitted, both ps .0 (rw e at run)),
-        λ b. h .1 (r, b .0, b .1, both (b .0) .1 (b .2)),
-      )
+  admitted-run s f read h = (
+    λ a.
+        let (q, ps, admitted, run) = h .0 a in
+        let e = same-records (sym (admitted .log) ∙ read) in
+        (ps, rw e at admitted, same-run (weave (r .events) ps) .0 (rw e at run)),
+    λ b. h .1 (r, b .0, b .1, same-run (weave (r .events) (b .0)) .1 (b .2)),
+  )
