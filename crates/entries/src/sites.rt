@@ -11,12 +11,13 @@ impl Site {
     pub fn of(t: Topology, x: Location) -> Site
         ensures { λ r. ⌜ (siteMeant r ≡ siteOf (topologyOf t) (x .0)) × (r .location ≡ x) ⌝ }
     {
-        let owner = t.owner(x);
+        let h = t.home(x);
+        let owner = h.owner;
         Site {
             location: x,
-            owner: owner,
+            owner,
             volatile: !t.is_persistent(owner),
-            initial: t.initial(x),
+            initial: h.initial,
         }
     }
 }

@@ -67,8 +67,8 @@ impl Topology {
         (at < count) & (at < LOCATIONS)
     }
 
-    // Where a location lives.
-    fn home(self, x: Location) -> Home
+    // Where a location lives, and the value that its memory holds at the start.
+    pub fn home(self, x: Location) -> Home
         ensures { λ r. ⌜ homeOf r ≡ getD (topologyOf self .homes) (x .0) nowhere ⌝ }
     {
         if self.is_location(x) {

@@ -1,6 +1,7 @@
 -- `of` meets its contract: the site has what the topology says.
 use mathlib.Core.Path.{refl, ap, _∙_}
 use mathlib.Core.Bool.{not}
+use Rattle.model.specs.Cxl0.{Home, owner, initial}
 use Rattle.model.specs.OneLocation.{siteOf}
 use Rattle.model.specs.Meaning.{topologyOf}
 use Rattle.model.proofs.Tests.{nothing}
@@ -8,13 +9,13 @@ use Rattle.entries.proofs.Site.of.Statement.{statement}
 use Rattle.entries.proofs.Site.of.Tie as tie
 
 returns : tie.Need-returns
-unfolding siteOf
+unfolding siteOf owner initial
 returns c =
-    let owner = c .before .before .owner in
+    let home = c .before .before .home .ensures in
     let sys = topologyOf (c .before .before .before .args .t) in
-    let volatile = ap not (c .before .is-persistent .ensures ∙ ap (sys .persistent) (owner .ensures)) in
-    let begins = c .initial .ensures in
-    (λ i. record { owner = owner .ensures i; volatile = volatile i; initial = begins i }, refl)
+    let lives = ap (λ (h : Home). h .owner) home in
+    let volatile = ap not (c .is-persistent .ensures ∙ ap (sys .persistent) lives) in
+    (λ i. record { owner = lives i; volatile = volatile i; initial = home i .initial }, refl)
 
 pub of-spec : {M : Type 1} → statement M
-of-spec = tie.close (tie.spec nothing nothing nothing returns)
+of-spec = tie.close (tie.spec nothing nothing returns)
