@@ -21,7 +21,7 @@ pub fn judge(log: &Log) -> Verdict {
     let mut steps = Vec::new();
     let mut events = log.events.len();
     let mut first = None;
-    for location in 0..log.owners.len() as u8 {
+    for location in 0..log.homes.len() as u8 {
         match search.run(log, location, events) {
             Ok(found) => steps.extend(found),
             // Only an earlier event of another location can still be the first.

@@ -1,9 +1,9 @@
 //! What one location sees of the system. Nothing that happens at one location depends on another.
 
-use crate::{Event, Log, Operation};
+use crate::{Event, Home, Log, Operation};
 
 /// What the caches and the memory hold for one location. That all copies agree is not assumed.
-#[derive(Clone, Copy, Debug, Default, PartialEq, Eq, Hash)]
+#[derive(Clone, Copy, Debug, PartialEq, Eq, Hash)]
 pub(crate) struct Local {
     /// Bit i - 1 is set if machine i's cache holds a value.
     holders: u8,
@@ -13,6 +13,11 @@ pub(crate) struct Local {
 }
 
 impl Local {
+    /// No cache holds anything, and this is in memory.
+    pub(crate) fn in_memory(memory: u16) -> Local {
+        Local { holders: 0, copies: [0; 6], memory }
+    }
+
     /// What a machine's cache holds.
     fn cache(&self, machine: u8) -> Option<u16> {
         let i = machine - 1;
@@ -26,9 +31,9 @@ impl Local {
         }
         let (i, v) = (event.machine, event.value);
         match event.operation {
-            Operation::LStore => Some(Local::holding(i, v, self.memory)),
-            Operation::RStore => Some(Local::holding(owner, v, self.memory)),
-            Operation::MStore => Some(Local::stored(v)),
+            Operation::LStore => Some(Local::in_memory(self.memory).with_copy(i, v)),
+            Operation::RStore => Some(Local::in_memory(self.memory).with_copy(owner, v)),
+            Operation::MStore => Some(Local::in_memory(v)),
             Operation::Load if self.holders == 0 => (self.memory == v).then_some(*self),
             Operation::Load => self.all_hold(v).then(|| self.with_copy(i, v)),
             Operation::LFlush => self.cache(i).is_none().then_some(*self),
@@ -39,15 +44,15 @@ impl Local {
     }
 
     /// The state after a crash of these machines, all in one step.
-    pub(crate) fn crash(&self, crashed: u8, owner: u8, log: &Log) -> Local {
+    pub(crate) fn crash(&self, crashed: u8, home: Home, log: &Log) -> Local {
         let mut next = *self;
         let mut left = crashed;
         while left != 0 {
             next = next.without_copy(left.trailing_zeros() as u8 + 1);
             left &= left - 1;
         }
-        if crashed >> (owner - 1) & 1 == 1 && !log.is_persistent(owner) {
-            next.memory = 0;
+        if crashed >> (home.owner - 1) & 1 == 1 && !log.is_persistent(home.owner) {
+            next.memory = home.initial;
         }
         next
     }
@@ -55,22 +60,13 @@ impl Local {
     /// The state after a silent step, a write-back if the machine is 0, or nothing if it is not possible.
     pub(crate) fn step(&self, machine: u8, owner: u8) -> Option<Local> {
         if machine == 0 {
-            return self.cache(owner).map(Local::stored);
+            return self.cache(owner).map(Local::in_memory);
         }
         if machine == owner {
             return None;
         }
         let value = self.cache(machine)?;
         Some(self.without_copy(machine).with_copy(owner, value))
-    }
-
-    fn holding(machine: u8, value: u16, memory: u16) -> Local {
-        let empty = Local { memory, ..Local::default() };
-        empty.with_copy(machine, value)
-    }
-
-    fn stored(memory: u16) -> Local {
-        Local { memory, ..Local::default() }
     }
 
     fn with_copy(&self, machine: u8, value: u16) -> Local {

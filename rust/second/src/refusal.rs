@@ -31,6 +31,8 @@ impl Refusal {
     pub const TRAILING_BYTES: Refusal = Refusal(12);
     /// The verdict file is no schedule for this log.
     pub const BAD_SCHEDULE: Refusal = Refusal(13);
+    /// The initial value 0 in the long form of a location's field; the short form says it.
+    pub const BAD_INITIAL_VALUE: Refusal = Refusal(14);
     /// A set crash of fewer than two machines, or of one that is none of the system.
     pub const BAD_MACHINE_SET: Refusal = Refusal(15);
 }

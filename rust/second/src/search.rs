@@ -24,10 +24,10 @@ impl Search {
     /// Follows the first `events` events at one location. Gives the silent steps of a run, or the number of the first
     /// event, counted from 1, that no choice of silent steps lets happen.
     pub(crate) fn run(&mut self, log: &Log, location: u8, events: usize) -> Result<Vec<Step>, usize> {
-        let owner = log.owners[usize::from(location)];
+        let home = log.homes[usize::from(location)];
         self.nodes.clear();
         self.seen.clear();
-        self.reach(Local::default(), 0, None);
+        self.reach(Local::in_memory(home.initial), 0, None);
         let mut layer = 0;
         for (passed, event) in log.events[..events].iter().enumerate() {
             let crashed = event.crashed();
@@ -39,9 +39,9 @@ impl Search {
             for parent in layer..end {
                 let state = self.nodes[parent].state;
                 let next = match crashed {
-                    0 => state.apply(event, owner),
+                    0 => state.apply(event, home.owner),
                     // One step of the layer, whatever their number: nothing moves between the machines of a set.
-                    _ => Some(state.crash(crashed, owner, log)),
+                    _ => Some(state.crash(crashed, home, log)),
                 };
                 if let Some(next) = next {
                     self.reach(next, parent, None);
@@ -58,7 +58,7 @@ impl Search {
 
     /// Adds every state that silent steps reach from the layer.
     fn close(&mut self, log: &Log, location: u8, layer: usize, passed: usize) {
-        let owner = log.owners[usize::from(location)];
+        let owner = log.homes[usize::from(location)].owner;
         let mut at = layer;
         while at < self.nodes.len() {
             let state = self.nodes[at].state;

@@ -12,10 +12,12 @@ pub struct System {
 }
 
 impl System {
-    /// Caches hold nothing and memories hold 0.
+    /// Caches hold nothing and memories hold the initial values.
     pub fn start(log: &Log) -> System {
-        let locations = log.owners.len();
-        System { caches: vec![vec![None; locations]; usize::from(log.machines)], memory: vec![0; locations] }
+        System {
+            caches: vec![vec![None; log.homes.len()]; usize::from(log.machines)],
+            memory: log.homes.iter().map(|home| home.initial).collect(),
+        }
     }
 
     /// The value that a load of the location returns: that of some cache that holds it, or else of the memory.
@@ -70,7 +72,7 @@ impl System {
         }
         let i = usize::from(event.machine - 1);
         let x = usize::from(event.location);
-        let k = usize::from(log.owners[x] - 1);
+        let k = usize::from(log.homes[x].owner - 1);
         let v = event.value;
         let cached = self.caches.iter().any(|cache| cache[x].is_some());
         match event.operation {
@@ -100,7 +102,7 @@ impl System {
     /// stays.
     pub fn step(&mut self, log: &Log, location: u8, machine: u8) -> bool {
         let x = usize::from(location);
-        let owner = log.owners[x];
+        let owner = log.homes[x].owner;
         let k = usize::from(owner - 1);
         if machine == 0 {
             let Some(v) = self.caches[k][x] else {
@@ -120,16 +122,16 @@ impl System {
         true
     }
 
-    /// The machines' caches are emptied, and what they own is 0 again where their memory is volatile.
+    /// The machines' caches are emptied, and what they own is at its initial value again where their memory is volatile.
     fn crash(&mut self, log: &Log, machines: &[u8]) {
         for (cache, machine) in self.caches.iter_mut().zip(1..) {
             if machines.contains(&machine) {
                 cache.fill(None);
             }
         }
-        for (memory, owner) in self.memory.iter_mut().zip(&log.owners) {
-            if machines.contains(owner) && !log.is_persistent(*owner) {
-                *memory = 0;
+        for (memory, home) in self.memory.iter_mut().zip(&log.homes) {
+            if machines.contains(&home.owner) && !log.is_persistent(home.owner) {
+                *memory = home.initial;
             }
         }
     }

@@ -53,7 +53,7 @@ fn schedule(log: &Log, file: &[u8]) -> Option<Vec<Step>> {
         let &[TAG_STEP, 3, 0, before, location, machine] = field else {
             return None;
         };
-        let owner = *log.owners.get(usize::from(location))?;
+        let owner = log.homes.get(usize::from(location))?.owner;
         let fits = usize::from(before) <= log.events.len()
             && machine <= log.machines
             && machine != owner

@@ -75,7 +75,7 @@ fn with_silent_steps(log: &Log, ways: Ways, most: usize) -> Ways {
 
 /// The states one silent step away.
 fn silent_successors<'a>(log: &'a Log, system: &'a System) -> impl Iterator<Item = System> + 'a {
-    let locations = 0..log.owners.len() as u8;
+    let locations = 0..log.homes.len() as u8;
     locations.flat_map(move |location| {
         (0..=log.machines).filter_map(move |machine| system.after_step(log, location, machine))
     })

@@ -10,6 +10,7 @@ fn small(random: &mut Random) -> Shape {
         events: random.below(9),
         crashes: 25,
         set_crashes: 40,
+        patterns: 50,
         values: 3,
         operations: some_operations(random, 50),
     }

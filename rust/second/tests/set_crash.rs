@@ -1,6 +1,6 @@
 //! Set crashes: several machines lose their caches, and volatile owners their memory, in one step.
 
-use corpus::{crash, encode, marked::apart_and_together, power_loss, random_log, set_crash, Random, Shape};
+use corpus::{crash, encode, marked::apart_and_together, power_loss, random_log, set_crash, zeroed, Random, Shape};
 use second::{judge, read, replay, whole, Event, Log, Operation, Refusal, Replayed, Step, Verdict};
 
 fn event(operation: Operation, machine: u8, value: u16) -> Event {
@@ -12,7 +12,7 @@ fn load(machine: u8, value: u16) -> Event {
 }
 
 fn log(persistent: u8, owner: u8, events: &[Event]) -> Log {
-    Log { machines: 3, persistent, owners: vec![owner], events: events.to_vec() }
+    Log { machines: 3, persistent, homes: vec![zeroed(owner)], events: events.to_vec() }
 }
 
 /// The first impossible event, by both searches.
@@ -40,7 +40,7 @@ fn code_tag_and_machines() {
     assert_eq!(encode(&together)[9..17], [3, 5, 0, 11, 0, 6, 0, 0]);
     assert_eq!(together.steps_most(), 0);
     // A set crash needs no location.
-    together.owners.clear();
+    together.homes.clear();
     assert_eq!(first_impossible(&together), None);
 }
 
@@ -48,7 +48,7 @@ fn code_tag_and_machines() {
 fn which_sets_are_sets() {
     for machines in 1..=6 {
         for set in 0..=255 {
-            let log = Log { machines, persistent: 0, owners: vec![], events: vec![set_crash(set)] };
+            let log = Log { machines, persistent: 0, homes: vec![], events: vec![set_crash(set)] };
             let absent = (machines..8).any(|bit| set & 1 << bit != 0);
             let expected = match (0..8).filter(|bit| set & 1 << bit != 0).count() {
                 0 | 1 => Err(Refusal(15)),
@@ -112,6 +112,7 @@ fn small(random: &mut Random) -> Shape {
         events: random.between(2, 8),
         crashes: 30,
         set_crashes: 70,
+        patterns: 30,
         values: 2,
         operations: corpus::some_operations(random, 30),
     }
