@@ -37,6 +37,7 @@ impl Corpus {
             events: self.events,
             crashes: self.crashes,
             set_crashes: 0,
+            patterns: 0,
             values: 1000,
             operations: MIXED,
         };

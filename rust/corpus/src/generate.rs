@@ -1,7 +1,7 @@
 //! Random logs and schedules.
 
 use second::log::{EVENTS_MOST, LOCATIONS_MOST};
-use second::{Event, Log, Operation, Step, System};
+use second::{Event, Home, Log, Operation, Step, System};
 
 use crate::Random;
 
@@ -18,7 +18,9 @@ pub struct Shape {
     pub crashes: usize,
     /// So many of a hundred crashes are set crashes, unless there is only one machine.
     pub set_crashes: usize,
-    /// Values are below this.
+    /// So many of a hundred locations have an initial value other than 0.
+    pub patterns: usize,
+    /// Values are below this, which is at least 2; now and then an initial value is above.
     pub values: usize,
     /// What happens beside crashes, each as often as it stands here.
     pub operations: &'static [Operation],
@@ -93,6 +95,7 @@ impl Shape {
             events,
             crashes: *random.pick(&[0, 5, 15, 30, 70]),
             set_crashes: *random.pick(&[0, 30, 60]),
+            patterns: *random.pick(&[0, 40, 100]),
             values: *random.pick(&[2, 3, 5, 65536]),
             operations: some_operations(random, 70),
         }
@@ -105,24 +108,35 @@ impl Shape {
         Log {
             machines: self.machines as u8,
             persistent: *random.pick(&[all, 0, some]),
-            owners: (0..self.locations).map(|_| random.between(1, self.machines) as u8).collect(),
+            homes: (0..self.locations).map(|_| self.home(random)).collect(),
             events: Vec::with_capacity(self.events),
+        }
+    }
+
+    /// A location. As with set crashes, a shape without patterns takes no random number for them.
+    fn home(&self, random: &mut Random) -> Home {
+        let owner = random.between(1, self.machines) as u8;
+        match self.patterns > 0 && random.percent(self.patterns) {
+            true => Home { owner, initial: pattern(random, self.values) },
+            false => zeroed(owner),
         }
     }
 
     /// An event that names only what the log has. The owner's events count most, so it is the machine more often than
     /// another.
-    fn event(&self, random: &mut Random, owners: &[u8]) -> Event {
+    fn event(&self, random: &mut Random, homes: &[Home]) -> Event {
         let location = random.below(self.locations) as u8;
-        let machine = match owners.get(usize::from(location)) {
-            Some(&owner) if random.percent(25) => owner,
+        let home = homes.get(usize::from(location));
+        let machine = match home {
+            Some(home) if random.percent(25) => home.owner,
             _ => random.between(1, self.machines) as u8,
         };
-        if owners.is_empty() || random.percent(self.crashes) {
+        let Some(home) = home.filter(|_| !random.percent(self.crashes)) else {
             return self.crash(random, machine);
-        }
+        };
         let operation = *random.pick(self.operations);
         let value = random.below(self.values) as u16;
+        let value = if home.initial != 0 && random.percent(50) { near_pattern(random, home.initial) } else { value };
         let written = if operation.is_rmw() { random.below(self.values) as u16 } else { 0 };
         Event { operation, machine, location, value: if operation.uses_value() { value } else { 0 }, written }
     }
@@ -135,6 +149,46 @@ impl Shape {
         }
         set_crash(set_with(random, machine, self.machines as u8))
     }
+}
+
+/// A location of this machine whose memory starts as zero.
+pub fn zeroed(owner: u8) -> Home {
+    Home { owner, initial: 0 }
+}
+
+/// An initial value other than 0: one of the values, or a high byte alone, or the largest, or any.
+fn pattern(random: &mut Random, values: usize) -> u16 {
+    match random.below(8) {
+        0..=3 => random.between(1, values - 1) as u16,
+        4 | 5 => (random.between(1, 0xff) as u16) << 8,
+        6 => 0xffff,
+        _ => random.between(1, 0xffff) as u16,
+    }
+}
+
+/// A value for a location with this initial value: the same, or what a wrong reader would take for it.
+fn near_pattern(random: &mut Random, initial: u16) -> u16 {
+    *random.pick(&[initial, initial, 0, initial.swap_bytes()])
+}
+
+/// The payload of a location's field for so many machines: right, or at the edge of what is right in some of its bytes.
+pub fn near_home(random: &mut Random, machines: u8) -> Vec<u8> {
+    let owner = match random.below(8) {
+        0 => 0,
+        1 => machines + 1,
+        _ => random.between(1, machines.into()) as u8,
+    };
+    let mut payload = vec![owner];
+    if random.percent(70) {
+        let initial = if random.percent(40) { 0 } else { pattern(random, 3) };
+        payload.extend(initial.to_le_bytes());
+    }
+    match random.below(10) {
+        0 => payload.push(random.below(2) as u8),
+        1 => drop(payload.pop()),
+        _ => {}
+    }
+    payload
 }
 
 /// A crash of one machine.
@@ -181,7 +235,7 @@ pub fn plausible(random: &mut Random, shape: &Shape) -> Log {
             let machine = random.below(shape.machines + 1) as u8;
             system.step(&log, location, machine);
         }
-        let mut event = shape.event(random, &log.owners);
+        let mut event = shape.event(random, &log.homes);
         match event.operation {
             operation if operation.reads() => event.value = system.visible(event.location),
             Operation::LFlush | Operation::RFlush => settle(&mut system, &log, &event),
@@ -214,14 +268,17 @@ pub fn change_one_load(random: &mut Random, log: &Log, values: usize) -> Log {
     let loads: Vec<usize> = (0..log.events.len()).filter(|&e| log.events[e].operation.reads()).collect();
     if !loads.is_empty() {
         let event = &mut changed.events[*random.pick(&loads)];
+        let initial = log.homes[usize::from(event.location)].initial;
         let other = random.below(values) as u16;
+        let other = if initial != 0 && random.percent(50) { near_pattern(random, initial) } else { other };
         event.value = if other == event.value { other ^ 1 } else { other };
     }
     changed
 }
 
 /// A log like a litmus test: a short run with values in caches and crashes, and then a load, or now and then a
-/// read-modify-write, of a value that was stored or of 0. Whether it can be explained hangs on the silent steps before.
+/// read-modify-write, of a value that was stored, of the initial one or of 0. Whether it can be explained hangs on the
+/// silent steps before.
 pub fn litmus(random: &mut Random) -> Log {
     let shape = Shape {
         machines: random.between(2, 4),
@@ -229,6 +286,7 @@ pub fn litmus(random: &mut Random) -> Log {
         events: random.between(2, 10),
         crashes: 25,
         set_crashes: 40,
+        patterns: *random.pick(&[0, 60]),
         values: 3,
         operations: some_operations(random, 20),
     };
@@ -237,6 +295,10 @@ pub fn litmus(random: &mut Random) -> Log {
     let here = log.events.iter().filter(|event| event.location == location);
     let mut values: Vec<u16> = here.filter_map(Event::stored).collect();
     values.push(0);
+    let initial = log.homes[usize::from(location)].initial;
+    if initial != 0 {
+        values.push(initial);
+    }
     let machine = random.between(1, shape.machines) as u8;
     let mut last = Event { operation: Operation::Load, machine, location, value: *random.pick(&values), written: 0 };
     if random.percent(15) {
@@ -248,8 +310,8 @@ pub fn litmus(random: &mut Random) -> Log {
 }
 
 /// A log like a litmus test for set crashes: after a short run a value is stored and loaded, most often only by machines
-/// that then crash together with the owner, in one step or now and then in a row; and then a load of it or of 0. What
-/// could move between crashes in a row decides.
+/// that then crash together with the owner, in one step or now and then in a row; and then a load of it, of the initial
+/// value or of 0. What could move between crashes in a row decides.
 pub fn power_loss(random: &mut Random) -> Log {
     let shape = Shape {
         machines: random.between(2, 4),
@@ -257,6 +319,7 @@ pub fn power_loss(random: &mut Random) -> Log {
         events: random.below(5),
         crashes: 25,
         set_crashes: 50,
+        patterns: *random.pick(&[0, 60]),
         values: 3,
         operations: some_operations(random, 20),
     };
@@ -264,7 +327,8 @@ pub fn power_loss(random: &mut Random) -> Log {
     let location = random.below(shape.locations) as u8;
     let value = shape.values as u16;
     let event = |operation, machine, value| Event { operation, machine, location, value, written: 0 };
-    let set = set_with(random, log.owners[usize::from(location)], log.machines);
+    let home = log.homes[usize::from(location)];
+    let set = set_with(random, home.owner, log.machines);
     let mut members: Vec<u8> = (1..=log.machines).filter(|machine| set & 1 << (machine - 1) != 0).collect();
     let store = if random.percent(80) { Operation::LStore } else { Operation::RStore };
     log.events.push(event(store, *random.pick(&members), value));
@@ -281,14 +345,53 @@ pub fn power_loss(random: &mut Random) -> Log {
         }
     }
     let last = random.between(1, shape.machines) as u8;
-    log.events.push(event(Operation::Load, last, *random.pick(&[value, 0])));
+    let read = *random.pick(&[value, value, home.initial, home.initial, 0]);
+    log.events.push(event(Operation::Load, last, read));
+    log
+}
+
+/// A log like a litmus test for initial values: after a short run a value is stored, most often to memory, and the owner
+/// crashes, most often, alone or with others; and then a load or two, of the value, of the initial one, of that of
+/// another location, or of 0. What the owner's memory returned to decides.
+pub fn power_on(random: &mut Random) -> Log {
+    let shape = Shape {
+        machines: random.between(1, 4),
+        locations: random.between(1, 3),
+        events: random.below(5),
+        crashes: 25,
+        set_crashes: 40,
+        patterns: 80,
+        values: 3,
+        operations: some_operations(random, 60),
+    };
+    let mut log = plausible(random, &shape);
+    let location = random.below(shape.locations) as u8;
+    let value = shape.values as u16;
+    let machine = |random: &mut Random| random.between(1, shape.machines) as u8;
+    let event = |operation, machine, location, value| Event { operation, machine, location, value, written: 0 };
+    if random.percent(80) {
+        let store = if random.percent(75) { Operation::MStore } else { Operation::LStore };
+        log.events.push(event(store, machine(random), location, value));
+    }
+    if random.percent(80) {
+        let owner = log.homes[usize::from(location)].owner;
+        let first = if random.percent(80) { owner } else { machine(random) };
+        log.events.push(shape.crash(random, first));
+    }
+    for _ in 0..random.between(1, 2) {
+        let location = if random.percent(60) { location } else { random.below(shape.locations) as u8 };
+        let own = log.homes[usize::from(location)].initial;
+        let another = random.pick(&log.homes).initial;
+        let read = *random.pick(&[own, own, own, another, value, 0, own.swap_bytes()]);
+        log.events.push(event(Operation::Load, machine(random), location, read));
+    }
     log
 }
 
 /// A log whose events are all random; most such logs have an impossible load.
 pub fn random_log(random: &mut Random, shape: &Shape) -> Log {
     let mut log = shape.head(random);
-    log.events = (0..shape.events).map(|_| shape.event(random, &log.owners)).collect();
+    log.events = (0..shape.events).map(|_| shape.event(random, &log.homes)).collect();
     log
 }
 
@@ -341,12 +444,12 @@ fn random_step(random: &mut Random, log: &Log, wild: bool) -> Step {
     let slack = usize::from(wild);
     Step {
         before: random.below(log.events.len() + 1 + slack) as u8,
-        location: random.below(log.owners.len() + 1) as u8,
+        location: random.below(log.homes.len() + 1) as u8,
         machine: random.below(usize::from(log.machines) + 1 + slack) as u8,
     }
 }
 
 fn fits(log: &Log, step: &Step) -> bool {
-    let owner = log.owners.get(usize::from(step.location));
-    owner.is_some_and(|&owner| step.machine != owner && step.machine <= log.machines)
+    let home = log.homes.get(usize::from(step.location));
+    home.is_some_and(|home| step.machine != home.owner && step.machine <= log.machines)
 }

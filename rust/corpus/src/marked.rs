@@ -1,6 +1,8 @@
-//! The fourteen marked logs of the specification, and the two of request W-203.
+//! The fourteen marked logs of the specification, and those of requests W-202 and W-203.
 
-use second::{Event, Log, Operation, Operation::*};
+use second::{Event, Home, Log, Operation, Operation::*};
+
+use crate::zeroed;
 
 /// A marked log: what it is, its records, and its first impossible event or nothing if it is allowed.
 pub struct Marked {
@@ -12,10 +14,22 @@ pub struct Marked {
     pub impossible: Option<u8>,
 }
 
+/// Three machines, whose memories are all persistent or all volatile, and the owners of L0, L1 and so on, whose memories
+/// start as zero.
 fn marked(
     name: &'static str,
     persistent: bool,
     owners: &[u8],
+    events: &[(Operation, u8, u8, u16)],
+    impossible: Option<u8>,
+) -> Marked {
+    filled(name, persistent, owners.iter().map(|&owner| zeroed(owner)).collect(), events, impossible)
+}
+
+fn filled(
+    name: &'static str,
+    persistent: bool,
+    homes: Vec<Home>,
     events: &[(Operation, u8, u8, u16)],
     impossible: Option<u8>,
 ) -> Marked {
@@ -28,12 +42,7 @@ fn marked(
     });
     Marked {
         name,
-        log: Log {
-            machines: 3,
-            persistent: if persistent { 0b111 } else { 0 },
-            owners: owners.to_vec(),
-            events: events.collect(),
-        },
+        log: Log { machines: 3, persistent: if persistent { 0b111 } else { 0 }, homes, events: events.collect() },
         impossible,
     }
 }
@@ -85,6 +94,25 @@ pub fn marked_logs() -> Vec<Marked> {
             Some(5),
         ),
         marked("a copy may move before its holder crashes", true, &[2], &[l, crash(1), load(2, 1)], None),
+    ]
+}
+
+/// Memories that are filled with a pattern at power-on: 7 at L0 of machine 2; 7 at L0 of 1 and 9 at L1 of 2.
+pub fn patterns() -> [Marked; 7] {
+    let one = || vec![Home { owner: 2, initial: 7 }];
+    let two = || vec![Home { owner: 1, initial: 7 }, Home { owner: 2, initial: 9 }];
+    let load = |value| (Load, 1, 0, value);
+    let crashed = |value| [(MStore, 1, 0, 1), (Crash, 2, 0, 0), load(value)];
+    let stores = [(MStore, 3, 0, 1), (MStore, 3, 1, 1), (SetCrash, 0, 0b011, 0)];
+    let together = |value| [&stores[..], &[(Load, 3, 0, 7), (Load, 3, 1, value)]].concat();
+    [
+        filled("the pattern is read back", true, one(), &[load(7)], None),
+        filled("nothing but the pattern is there", true, one(), &[load(0)], Some(1)),
+        filled("volatile memory returns to the pattern", false, one(), &crashed(7), None),
+        filled("volatile memory does not return to 0", false, one(), &crashed(0), Some(3)),
+        filled("persistent memory does not return to the pattern", true, one(), &crashed(7), Some(3)),
+        filled("each location returns to its own pattern", false, two(), &together(9), None),
+        filled("no location returns to another's pattern", false, two(), &together(7), Some(5)),
     ]
 }
 
