@@ -8,7 +8,7 @@ pub fn packed<T>(answer: Result<T, Refusal>, pack: impl FnOnce(T) -> u64) -> u64
 }
 
 pub fn read(log: &Log) -> u64 {
-    u64::from(log.machines) << 8 | (log.owners.len() as u64) << 16 | (log.events.len() as u64) << 24
+    u64::from(log.machines) << 8 | (log.homes.len() as u64) << 16 | (log.events.len() as u64) << 24
 }
 
 pub fn record(count: usize) -> u64 {

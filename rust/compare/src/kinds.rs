@@ -1,9 +1,9 @@
 //! The kinds of logs, each from a seed of its own.
 
-use corpus::encode::field;
-use corpus::{change_one_load, crash, damage, encode, litmus, near_set_crash, plausible};
-use corpus::{power_loss, random_log, set_crash, Random, Shape};
-use second::{Event, Log, Operation};
+use corpus::encode::{field, home_payload};
+use corpus::{change_one_load, crash, damage, encode, litmus, near_home, near_set_crash, plausible};
+use corpus::{power_loss, power_on, random_log, set_crash, zeroed, Random, Shape};
+use second::{Event, Home, Log, Operation};
 
 use crate::report::Report;
 use crate::trial;
@@ -11,20 +11,21 @@ use crate::trial;
 /// A kind of logs, how many there are in one round, and how one is made.
 type Kind = (&'static str, usize, fn(&mut Random) -> Vec<u8>);
 
-const KINDS: [Kind; 7] = [
+const KINDS: [Kind; 8] = [
     ("1 plausible, by simulating the system", 50_000, simulated),
     ("2 plausible with one load changed", 60_000, changed),
     ("3 random", 50_000, any),
-    ("4 near the limits", 20_000, limit),
+    ("4 near the limits", 24_000, limit),
     ("5 bytes damaged at random", 50_000, damaged),
     ("6 like litmus tests, the last read of any value", 150_000, |random| encode(&litmus(random))),
     ("7 like litmus tests, the holders crash with the owner", 50_000, |random| encode(&power_loss(random))),
+    ("8 like litmus tests, memories return to their initial values", 40_000, |random| encode(&power_on(random))),
 ];
 
-const SMALL: &str = "8 every log of three events or fewer, two machines, one location, two values";
+const SMALL: &str = "9 every log of three events or fewer, two machines, one location, two values";
 
-/// At least so many accepted logs of each kind have a read-modify-write, and at least so many a set crash: what is not made
-/// is not compared.
+/// At least so many accepted logs of each kind have a read-modify-write, at least so many a set crash, and at least so many
+/// an initial value: what is not made is not compared.
 const LEAST: usize = 1000;
 
 /// Compares all logs of each kind; each round takes other seeds. The small logs are not random and come once.
@@ -82,9 +83,14 @@ fn damaged(random: &mut Random) -> Vec<u8> {
 /// A log that is at a limit, or over it by one, in one respect.
 fn limit(random: &mut Random) -> Vec<u8> {
     let mut shape = Shape { crashes: 10, values: 3, ..Shape::random(random) };
-    match random.below(8) {
+    match random.below(9) {
         0 => {
             shape.events = 128;
+            if random.percent(20) {
+                // No accepted log has more bytes than these.
+                let operations = &[Operation::LRmw, Operation::RRmw, Operation::MRmw];
+                shape = Shape { locations: 32, patterns: 100, crashes: 0, operations, ..shape };
+            }
             let mut log = plausible(random, &shape);
             let rmw = Event { operation: Operation::LRmw, ..crash(1) };
             let more = *random.pick(&[crash(1), rmw, set_crash(0b11)]);
@@ -95,13 +101,14 @@ fn limit(random: &mut Random) -> Vec<u8> {
             shape.locations = 32;
             shape.events = shape.events.min(20);
             let mut log = plausible(random, &shape);
-            log.owners.extend(vec![1; random.below(3)]);
+            log.homes.extend(vec![Home { owner: 1, initial: *random.pick(&[0, 256]) }; random.below(3)]);
             encode(&log)
         }
         2 => {
             let (machines, persistent) = (random.below(9) as u8, random.byte() >> random.below(9).min(7));
             let event = if random.percent(50) { crash(1) } else { set_crash(random.byte() >> random.below(7)) };
-            encode(&Log { machines, persistent, owners: vec![random.below(8) as u8], events: vec![event] })
+            let home = Home { owner: random.below(8) as u8, initial: *random.pick(&[0, 1]) };
+            encode(&Log { machines, persistent, homes: vec![home], events: vec![event] })
         }
         3 => cornered(random, &shape),
         4 => {
@@ -114,8 +121,22 @@ fn limit(random: &mut Random) -> Vec<u8> {
             bytes[..random.below(bytes.len())].to_vec()
         }
         6 => long_schedule(random),
+        7 => cornered_home(random, &shape),
         _ => wrong_length(random, &shape),
     }
+}
+
+/// One more location whose bytes are at the edge of what the head allows; now and then the log stops inside them.
+fn cornered_home(random: &mut Random, shape: &Shape) -> Vec<u8> {
+    let locations = if random.percent(10) { 32 } else { shape.locations };
+    let log = plausible(random, &Shape { locations, ..*shape });
+    let bytes = encode(&log);
+    let at = 5 + log.homes.iter().map(|home| 3 + home_payload(home).len()).sum::<usize>();
+    let home = field(2, &near_home(random, log.machines));
+    if random.percent(15) {
+        return [&bytes[..at], &home[..random.below(home.len())]].concat();
+    }
+    [&bytes[..at], &home, &bytes[at..]].concat()
 }
 
 /// One event whose bytes are at the edge of what the head allows; now and then the tag or the length is that of the
@@ -127,7 +148,7 @@ fn cornered(random: &mut Random, shape: &Shape) -> Vec<u8> {
     let operation = if random.percent(20) { 11 } else { random.below(13) as u8 };
     let machine = if random.percent(70) { log.machines } else { near(random, log.machines.into()) };
     let unused = |random: &mut Random| random.below(8) as u8 / 7;
-    let location = if operation == 7 { unused(random) } else { near(random, log.owners.len().saturating_sub(1)) };
+    let location = if operation == 7 { unused(random) } else { near(random, log.homes.len().saturating_sub(1)) };
     let value = match operation {
         5..=7 => [unused(random), unused(random)],
         _ => [random.byte(), random.byte()],
@@ -149,8 +170,9 @@ fn cornered(random: &mut Random, shape: &Shape) -> Vec<u8> {
 fn long_schedule(random: &mut Random) -> Vec<u8> {
     let machines = random.between(2, 6) as u8;
     let rmws = *random.pick(&[0, 50, 100]);
-    let mut log = Log { machines, persistent: 0, owners: vec![1], events: Vec::new() };
-    let mut last = 0;
+    let home = Home { owner: 1, initial: *random.pick(&[0, 0x107]) };
+    let mut log = Log { machines, persistent: 0, homes: vec![home], events: Vec::new() };
+    let mut last = home.initial;
     while log.events.len() < 124 {
         let value = log.events.len() as u16;
         let event = |operation, machine, value| Event { operation, machine, location: 0, value, written: 0 };
@@ -172,7 +194,8 @@ fn long_schedule(random: &mut Random) -> Vec<u8> {
     encode(&log)
 }
 
-/// A field whose length is one off, or whose high byte is set, or an event with the length or the tag of the other kind.
+/// A field whose length is one off, or whose high byte is set, or a location or an event with the length of its other
+/// form, or an event with the tag of the other kind.
 fn wrong_length(random: &mut Random, shape: &Shape) -> Vec<u8> {
     let mut bytes = encode(&plausible(random, shape));
     let mut ends = Vec::new();
@@ -185,14 +208,16 @@ fn wrong_length(random: &mut Random, shape: &Shape) -> Vec<u8> {
     match random.below(5) {
         0 => bytes[at + 1] ^= 1,
         1 => bytes[at + 2] = 1,
-        2 => bytes[at + 1] ^= 5 ^ 7,
+        // Of a location's 1 this makes 3, of an event's 5 a 7, and the other way round.
+        2 => bytes[at + 1] ^= 2,
         3 => bytes[at] ^= 3 ^ 5,
         _ => bytes[at + 1] = bytes[at + 1].wrapping_sub(1),
     }
     bytes
 }
 
-/// Every log of at most three events with values 0 and 1, on one location of two machines.
+/// Every log of at most three events with values 0 and 1, on one location of two machines; and, of those without
+/// read-modify-writes, the same with the initial value 1, where the owner alone is persistent and where the other is.
 fn small(mut compare: impl FnMut(&[u8])) {
     let mut events = vec![crash(1), crash(2), set_crash(0b11)];
     for operation in Operation::ALL.into_iter().filter(|operation| !operation.is_crash()) {
@@ -204,16 +229,24 @@ fn small(mut compare: impl FnMut(&[u8])) {
         }
     }
     // The machines are alike, so one owner is enough.
+    let mut each = |persistent, home, events: &[Event]| {
+        rows(events, |row| compare(&encode(&Log { machines: 2, persistent, homes: vec![home], events: row.to_vec() })))
+    };
     for persistent in 0..4 {
-        let mut logs = vec![Vec::new()];
-        for _ in 0..3 {
-            logs.iter().for_each(|log| compare(&encode(&small_log(persistent, log))));
-            logs = logs.iter().flat_map(|log| events.iter().map(|&event| [&log[..], &[event]].concat())).collect();
-        }
-        logs.iter().for_each(|log| compare(&encode(&small_log(persistent, log))));
+        each(persistent, zeroed(1), &events);
+    }
+    events.retain(|event| !event.operation.is_rmw());
+    for persistent in [0b01, 0b10] {
+        each(persistent, Home { owner: 1, initial: 1 }, &events);
     }
 }
 
-fn small_log(persistent: u8, events: &[Event]) -> Log {
-    Log { machines: 2, persistent, owners: vec![1], events: events.to_vec() }
+/// Every row of at most three of these events.
+fn rows(events: &[Event], mut each: impl FnMut(&[Event])) {
+    let mut rows = vec![Vec::new()];
+    for _ in 0..3 {
+        rows.iter().for_each(|row| each(row));
+        rows = rows.iter().flat_map(|row| events.iter().map(|&event| [&row[..], &[event]].concat())).collect();
+    }
+    rows.iter().for_each(|row| each(row));
 }

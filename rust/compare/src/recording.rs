@@ -1,7 +1,7 @@
 //! The recorder against the second one and against an encoder that asks nothing.
 
 use corpus::encode::{encode, fields};
-use corpus::{near_set_crash, Random};
+use corpus::{near_home, near_set_crash, Random};
 use second::{Log, Refusal};
 
 use crate::report::{hex, Report};
@@ -54,7 +54,10 @@ fn some_field(random: &mut Random) -> (u8, Vec<u8>) {
     let small = |random: &mut Random, most: usize| random.below(most + 1) as u8;
     let mut payload = match tag {
         1 => vec![small(random, 7), small(random, 63)],
-        2 => vec![small(random, 7)],
+        2 => {
+            let machines = random.between(1, 6) as u8;
+            near_home(random, machines)
+        }
         3 if random.percent(20) => {
             let machines = random.between(1, 6) as u8;
             near_set_crash(random, machines).to_vec()

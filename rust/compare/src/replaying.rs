@@ -29,10 +29,10 @@ pub fn compare(log: &[u8], records: Option<&Log>, steps: &[Step], random: &mut R
 
 /// Schedules at the limit of 256 steps, whether or not they are runs.
 fn crowded(log: &[u8], records: &Log, random: &mut Random, report: &mut Report) {
-    let Some(&owner) = records.owners.first() else {
+    let Some(home) = records.homes.first() else {
         return;
     };
-    let machine = if owner == 1 && records.machines > 1 { 2 } else { 0 };
+    let machine = if home.owner == 1 && records.machines > 1 { 2 } else { 0 };
     let count = random.between(255, 257);
     let before = random.below(records.events.len() + 1) as u8;
     let steps = vec![Step { before, location: 0, machine }; count];

@@ -18,6 +18,8 @@ pub struct Verdicts {
     pub with_rmw: usize,
     /// Accepted logs that have a set crash.
     pub with_set_crash: usize,
+    /// Accepted logs that have an initial value.
+    pub with_initial: usize,
 }
 
 /// Counts of all that was compared.
@@ -47,16 +49,16 @@ impl Report {
         }
     }
 
-    /// Notes each kind with fewer accepted logs than this that have a read-modify-write, or a set crash. A comparison that
-    /// stopped has not made all.
+    /// Notes each kind with fewer accepted logs than this that have a read-modify-write, a set crash or an initial value.
+    /// A comparison that stopped has not made all.
     pub fn ask_made(&mut self, least: usize) {
         if self.is_hopeless() {
             return;
         }
-        let few = |verdicts: &Verdicts| verdicts.with_rmw.min(verdicts.with_set_crash) < least;
+        let few = |made: &Verdicts| made.with_rmw.min(made.with_set_crash).min(made.with_initial) < least;
         let kinds: Vec<_> = self.kinds.iter().filter(|(_, verdicts)| few(verdicts)).map(|(&kind, _)| kind).collect();
         for kind in kinds {
-            self.differ("too few with read-modify-writes or set crashes", &[], kind);
+            self.differ("too few with read-modify-writes, set crashes or initial values", &[], kind);
         }
     }
 
@@ -74,11 +76,14 @@ impl Report {
 
     pub fn print(&self) {
         for (kind, verdicts) in &self.kinds {
-            let Verdicts { allowed, impossible, refused, with_rmw, with_set_crash } = verdicts;
+            let Verdicts { allowed, impossible, refused, with_rmw, with_set_crash, with_initial } = verdicts;
             let turned_away: usize = refused.values().sum();
             println!("{kind}: {} logs", allowed + impossible + turned_away);
             println!("    {allowed} allowed, {impossible} impossible, {turned_away} refused{}", numbers(refused));
-            println!("    {with_rmw} of the accepted with read-modify-writes, {with_set_crash} with set crashes");
+            println!(
+                "    {with_rmw} of the accepted with read-modify-writes, {with_set_crash} with set crashes, \
+                 {with_initial} with initial values"
+            );
         }
         println!(
             "{} schedules replayed by both sides, {} silent steps, at most {} in one",

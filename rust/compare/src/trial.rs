@@ -111,6 +111,7 @@ fn judged(
     let any = |is: fn(Operation) -> bool| usize::from(records.events.iter().any(|event| is(event.operation)));
     verdicts.with_rmw += any(Operation::is_rmw);
     verdicts.with_set_crash += any(|operation| operation == Operation::SetCrash);
+    verdicts.with_initial += usize::from(records.homes.iter().any(|home| home.initial != 0));
     let verdict = second::judge(records);
     match &verdict {
         Verdict::Impossible(event) => {
