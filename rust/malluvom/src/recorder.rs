@@ -1,7 +1,8 @@
-use crate::{record, MachineSet, Refusal};
+use crate::{record, Home, MachineSet, Refusal};
 
-/// An accepted log has at most 32 locations and 128 events, of which read-modify-writes are the longest.
-const LOG_MOST: usize = 5 + 32 * 4 + 128 * 10 + 3;
+/// An accepted log has at most 32 locations, of which those with an initial value are the longest, and 128 events, of which
+/// read-modify-writes are.
+const LOG_MOST: usize = 5 + 32 * 6 + 128 * 10 + 3;
 
 /// Builds a log field by field; each is checked by the proved recorder.
 pub struct Recorder {
@@ -22,9 +23,15 @@ impl Recorder {
         Recorder { buffer: [0; LOG_MOST], used: 0 }
     }
 
-    /// The next location, in the memory of this machine.
+    /// The next location, in the memory of this machine, which starts as zero.
     pub fn location(&mut self, owner: u8) -> Result<(), Refusal> {
-        self.field(0x02, &[owner])
+        self.location_initially(owner, 0)
+    }
+
+    /// The next location, in the memory of this machine, which holds the initial value at power-on and, if it is volatile,
+    /// again after a crash. The field of 0 is the short one.
+    pub fn location_initially(&mut self, owner: u8, initial: u16) -> Result<(), Refusal> {
+        self.field(0x02, &Home { owner, initial }.payload())
     }
 
     /// The next event, with an operation from 1 to 7 or 11. What it does not use must be 0.

@@ -30,13 +30,15 @@ pub enum Refusal {
     TrailingBytes,
     /// The verdict file is no schedule for this log.
     BadSchedule,
+    /// The initial value 0 in the long form of a location's field. The short form says it, so that a log has one byte form.
+    BadInitialValue,
     /// A set crash of fewer than two machines, or of one that is outside 1 to the machine count.
-    BadMachineSet = 15,
+    BadMachineSet,
 }
 
 impl Refusal {
-    /// All refusals, by rising number. No refusal has the number 14.
-    pub const ALL: [Refusal; 14] = [
+    /// All refusals, by rising number.
+    pub const ALL: [Refusal; 15] = [
         Refusal::BufferTooShort,
         Refusal::Truncated,
         Refusal::UnexpectedTag,
@@ -50,6 +52,7 @@ impl Refusal {
         Refusal::ReservedNotZero,
         Refusal::TrailingBytes,
         Refusal::BadSchedule,
+        Refusal::BadInitialValue,
         Refusal::BadMachineSet,
     ];
 
@@ -79,6 +82,7 @@ impl Refusal {
             Refusal::ReservedNotZero => "a byte that the operation does not use is not 0",
             Refusal::TrailingBytes => "something stands after the end field",
             Refusal::BadSchedule => "the verdict file does not say allowed, or does not fit this log",
+            Refusal::BadInitialValue => "an initial value of 0 must have the short form, of length 1",
             Refusal::BadMachineSet => "fewer than two machines crash together, or one that is not there",
         }
     }

@@ -78,7 +78,7 @@ fn examples_are_judged_explained_and_drawn() {
         assert_eq!(status(&tool(&["judge", path])), judged, "{path}");
         assert_eq!(status(&tool(&["explain", path])), explained, "{path}");
         let picture = tool(&["draw", path]);
-        let locations = second::read(&bytes).map_or(0, |log| log.owners.len());
+        let locations = second::read(&bytes).map_or(0, |log| log.homes.len());
         assert_eq!(status(&picture), if locations == 0 { 2 } else { drawn }, "{path}");
         if status(&picture) == 0 {
             let svg = String::from_utf8(picture.stdout).unwrap();
@@ -251,6 +251,97 @@ fn crashes_in_a_row_are_no_set_crash() {
 }
 
 #[test]
+fn initial_values_are_written_down() {
+    let folder = folder("initial-unchecked");
+    let text = folder.join("a.txt");
+    let assembled = |lines: &str| {
+        fs::write(&text, format!("unchecked\n{lines}\n")).unwrap();
+        let output = tool(&["asm", text.to_str().unwrap()]);
+        assert_eq!(status(&output), 0, "{lines}");
+        output.stdout
+    };
+    for line in ["L0 of 2 initially 258", "L0 2 initially 0x102", "l0 of 2, initially 258"] {
+        assert_eq!(assembled(line), [2, 3, 0, 2, 2, 1], "{line}");
+    }
+    assert_eq!(assembled("L0 of 2 initially 65535\nL1 of 9 initially 1"), [2, 3, 0, 2, 255, 255, 2, 3, 0, 9, 1, 0]);
+    // The short field says 0.
+    for line in ["L0 of 2", "L0 of 2 initially 0", "L0 2 initially 0x0"] {
+        assert_eq!(assembled(line), [2, 1, 0, 2], "{line}");
+    }
+}
+
+#[test]
+fn initial_values_are_shown_explained_and_drawn() {
+    let folder = folder("initial");
+    let [text, log, again] = ["a.txt", "a.log", "again.txt"].map(|name| folder.join(name));
+    let [text, log, again] = [&text, &log, &again].map(|path| path.to_str().unwrap());
+    let assemble = |events: &str| {
+        let head = "machines 3 persistent 3\nL0 of 1 initially 7\nL1 of 2 initially 0\nL2 of 2 initially 0x100";
+        fs::write(text, format!("{head}\n{events}\n")).unwrap();
+        assert_eq!(status(&tool(&["asm", text, "-o", log])), 0, "{events}");
+        fs::read(log).unwrap()
+    };
+    let print = |words: &[&str]| String::from_utf8(tool(words).stdout).unwrap();
+    let bytes =
+        assemble("Load by 3 of L0, 7\nMStore by 3 to L0 of 1\nMStore by 3 to L1 of 2\nCrash of 1\nLoad by 3 of L0, 7");
+    assert_eq!(bytes[5..21], [2, 3, 0, 1, 7, 0, 2, 1, 0, 2, 2, 3, 0, 2, 0, 1]);
+    assert_eq!(status(&tool(&["judge", log])), 0);
+    assert_eq!(status(&tool(&["show", log, "-o", again])), 0);
+    let shown = fs::read_to_string(again).unwrap();
+    assert!(shown.contains("\nL0 of 1 initially 7\nL1 of 2\nL2 of 2 initially 256\n\n"), "{shown}");
+    assert_eq!(tool(&["asm", again]).stdout, bytes);
+    let explained = print(&["explain", log]);
+    let run: Vec<&str> = explained.lines().skip(2).collect();
+    let power_on = "L0: no cache holds it, memory 7; L2: no cache holds it, memory 256";
+    assert!(run[0].contains("at power-on") && run[0].ends_with(power_on), "{explained}");
+    assert!(run[1].ends_with("L0: loaded from memory"), "{explained}");
+    assert!(run[4].contains("Crash of 1 ") && run[4].ends_with("L0: no cache holds it, memory 7"), "{explained}");
+    assert_eq!((run.len(), explained.matches("memory 0").count()), (6, 0), "{explained}");
+    // The bars of the memory: 7, then 1, and 7 again.
+    let memory = |location: &str| {
+        let svg = print(&["draw", log, "--location", location]);
+        let bars = svg.lines().filter(|line| line.starts_with("<rect class=\"memory\""));
+        let value = |bar: &str| bar.rsplit_once("</text>").unwrap().0.rsplit_once('>').unwrap().1.to_string();
+        (bars.map(value).collect::<Vec<_>>(), svg)
+    };
+    let (bars, svg) = memory("L0");
+    assert_eq!(bars, ["7", "1", "7"], "{svg}");
+    assert!(svg.contains(">L0, in the volatile memory of 1, initially 7</text>"), "{svg}");
+    let (bars, svg) = memory("L1");
+    assert_eq!(bars, ["0", "2"], "{svg}");
+    assert!(svg.contains(">L1, in the volatile memory of 2</text>"), "{svg}");
+    assert_eq!(memory("L2").0, ["256"]);
+    // In a set crash each returns to its own; what is at its initial value is not lost.
+    assemble("MStore by 3 to L0 of 1\nMStore by 3 to L1 of 2\nCrash of 1, 2\nLoad by 3 of L0, 7\nLoad by 3 of L1, 0");
+    assert_eq!(status(&tool(&["judge", log])), 0);
+    let words = "1 loses L0 from its memory; 2 loses L1 from its memory; \
+                 L0: no cache holds it, memory 7; L1: no cache holds it, memory 0";
+    assert!(print(&["explain", log]).lines().any(|line| line.ends_with(words)), "{}", print(&["explain", log]));
+}
+
+#[test]
+fn what_is_not_the_initial_value_is_explained() {
+    let folder = folder("initial-impossible");
+    let [text, log] = ["a.txt", "a.log"].map(|name| folder.join(name));
+    let [text, log] = [&text, &log].map(|path| path.to_str().unwrap());
+    let explained = |persistent: &str, events: &str| {
+        fs::write(text, format!("machines 2 persistent {persistent}\nL0 of 2 initially 7\n{events}\n")).unwrap();
+        assert_eq!(status(&tool(&["asm", text, "-o", log])), 0, "{events}");
+        let output = tool(&["explain", log]);
+        assert_eq!((status(&output), status(&tool(&["draw", log]))), (1, 0), "{events}");
+        String::from_utf8(output.stdout).unwrap()
+    };
+    let zero = explained("none", "MStore by 1 to L0 of 1\nCrash of 2\nLoad by 1 of L0, 0");
+    assert!(zero.starts_with("impossible: event 3, Load by 1 of L0, 0\n"), "{zero}");
+    assert!(zero.contains("a load by 1 of L0 can return 7, not 0.\nNothing before it stores 0 to L0.\n"), "{zero}");
+    assert!(zero.contains("All that concerns L0, in the volatile memory of 2, initially 7:\n"), "{zero}");
+    // A value of 7 needs no store: what stands in its way is named.
+    let seven = explained("all", "MStore by 1 to L0 of 1\nCrash of 2\nLoad by 1 of L0, 7");
+    assert!(seven.contains("a load by 1 of L0 can return 1, not 7.\n"), "{seven}");
+    assert!(seven.contains("left out, it could return 7:\n   1  MStore by 1 to L0 of 1\n"), "{seven}");
+}
+
+#[test]
 fn folders_and_json() {
     let root = Path::new(env!("CARGO_MANIFEST_DIR")).join("../../examples/marked");
     let judged = tool(&["judge", "--json", root.to_str().unwrap()]);
@@ -274,6 +365,12 @@ fn errors_have_status_2_and_say_what_is_wrong() {
         ("machines 2", "persistent"),
         ("machines 2 persistent all\nL1 of 1", ":2: the next location is L0"),
         ("machines 2 persistent all\nL0 of 3", ":2: number 6 (BadOwner)"),
+        ("machines 2 persistent all\nL0 of 3 initially 7", ":2: number 6 (BadOwner)"),
+        ("machines 2 persistent all\nL0 of 1 initially 65536", "'65536' is no number that fits"),
+        ("machines 2 persistent all\nL0 of 1 initially", ":2: a location is 'L0 of 2', or 'L0 of 2 initially 7'"),
+        ("machines 2 persistent all\nL0 of 1 7", ":2: a location is 'L0 of 2', or 'L0 of 2 initially 7'"),
+        ("machines 2 persistent all\nL0 of 1 finally 7", ":2: a location is 'L0 of 2', or 'L0 of 2 initially 7'"),
+        ("machines 2 persistent all\nL0 of 1 initially 7 8", ":2: a location is 'L0 of 2', or 'L0 of 2 initially 7'"),
         ("machines 7 persistent none", ":1: number 5 (BadTopology)"),
         ("machines 2 persistent all\n\nCrash of 3", ":3: number 9 (NoSuchMachine)"),
         ("machines 2 persistent all\nL0 of 1\nLoad by 1 of L0", ":3: this line should look like 'Load by 1 of L0, 1'"),
@@ -331,7 +428,7 @@ fn no_bytes_make_it_panic() {
     let (log, file) = (folder.join("a.log"), folder.join("a.verdict"));
     let mut random = Random::new(6);
     for round in 0..120 {
-        let shape = Shape { crashes: 20, set_crashes: 50, ..Shape::random(&mut random) };
+        let shape = Shape { crashes: 20, set_crashes: 50, patterns: 50, ..Shape::random(&mut random) };
         let bytes = match round % 4 {
             0 => {
                 let length = random.below(300);
@@ -380,6 +477,7 @@ fn no_text_makes_it_panic() {
         "L0",
         "L1",
         "L255",
+        "initially",
         "L",
         "of",
         "by",

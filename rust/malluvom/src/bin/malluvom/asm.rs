@@ -84,12 +84,12 @@ impl Assembly {
             }
             Line::Unchecked => Err("'unchecked' must come before all fields".into()),
             Line::Machines { count, persistent } => self.field(0x01, &[count, persistent]),
-            Line::Location { number, owner } => {
+            Line::Location { number, home } => {
                 if usize::from(number) != self.locations {
                     return Err(format!("the next location is L{}", self.locations));
                 }
                 self.locations += 1;
-                self.field(0x02, &[owner])
+                self.field(0x02, &home.payload())
             }
             Line::Event(event) => {
                 self.events += 1;

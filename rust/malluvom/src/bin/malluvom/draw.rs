@@ -9,7 +9,7 @@ use malluvom::{Event, Judge, Log, Operation, Schedule, Verdict};
 use crate::failure::Failure;
 use crate::files;
 use crate::options::Options;
-use crate::run::{actions, Action, Held};
+use crate::run::{actions, place, Action, Held};
 
 const LEFT: usize = 150;
 const TOP: usize = 64;
@@ -55,7 +55,7 @@ fn explained(mut log: Log, bytes: &[u8]) -> Result<(Log, Schedule, Option<Event>
 fn named(log: &Log, word: &str) -> Result<u8, Failure> {
     let number = word.strip_prefix(['L', 'l']).unwrap_or(word).parse();
     match number {
-        Ok(number) if usize::from(number) < log.owners.len() => Ok(number),
+        Ok(number) if usize::from(number) < log.homes.len() => Ok(number),
         _ => Err(Failure::new(format!("the log has no location {word}"))),
     }
 }
@@ -69,7 +69,7 @@ fn chosen(log: &Log, bad: Option<Event>) -> Result<u8, Failure> {
         let own = log.events.iter().filter(|event| !event.operation.is_crash() && event.location == x);
         own.count()
     };
-    let locations = 0..log.owners.len() as u8;
+    let locations = 0..log.homes.len() as u8;
     let most = locations.rev().max_by_key(|&x| events(x));
     most.ok_or_else(|| Failure::new("the log has no location to draw"))
 }
@@ -91,7 +91,7 @@ impl<'a> Picture<'a> {
         shown.retain(|action| action.concerns(self.location));
         let columns = shown.len() + usize::from(self.bad.is_some());
         self.frame(columns);
-        let mut states = vec![Held::default()];
+        let mut states = vec![Held::at_power_on(self.log, self.location)];
         for action in &shown {
             let last = states[states.len() - 1];
             states.push(last.after(self.log, self.location, action));
@@ -124,9 +124,8 @@ impl<'a> Picture<'a> {
     fn frame(&mut self, columns: usize) {
         let width = LEFT + COLUMN * columns.max(3) + 40;
         let height = self.memory() + LANE;
-        let x = self.location;
-        let owner = self.log.owner(x);
-        let kind = if self.log.is_persistent(owner) { "persistent" } else { "volatile" };
+        let owner = self.log.owner(self.location);
+        let place = place(self.log, self.location);
         let verdict = match self.bad {
             Some(_) => ": impossible",
             None => "",
@@ -136,7 +135,7 @@ impl<'a> Picture<'a> {
             "<svg xmlns=\"http://www.w3.org/2000/svg\" width=\"{width}\" height=\"{height}\" \
              viewBox=\"0 0 {width} {height}\">\n<style>{STYLE}</style>\n\
              <rect width=\"{width}\" height=\"{height}\" fill=\"#fff\"/>\n\
-             <text class=\"title\" x=\"12\" y=\"22\">L{x}, in the {kind} memory of {owner}{verdict}</text>"
+             <text class=\"title\" x=\"12\" y=\"22\">{place}{verdict}</text>"
         );
         for machine in 1..=self.log.machines {
             let role = if machine == owner { " (owner)" } else { "" };

@@ -9,7 +9,7 @@ use malluvom::{Event, Judge, Log, Operation, Schedule, Verdict};
 use crate::failure::Failure;
 use crate::files;
 use crate::options::Options;
-use crate::run::{actions, caches, Action, Held};
+use crate::run::{actions, caches, place, Action, Held};
 use crate::show::silent;
 
 pub fn command(words: &[OsString]) -> Result<u8, Failure> {
@@ -39,10 +39,15 @@ fn allowed(log: &Log, schedule: &Schedule) -> String {
     format!("allowed: {events} and {steps} make this run\n\n{}", run(log, schedule))
 }
 
-/// A run, line by line, with what changes.
+/// A run, line by line, with what changes. It begins with what is in memory at power-on, where that is not 0.
 fn run(log: &Log, schedule: &Schedule) -> String {
     let mut text = String::new();
-    let mut held = vec![Held::default(); log.owners.len()];
+    let mut held: Vec<Held> = (0..log.homes.len()).map(|x| Held::at_power_on(log, x as u8)).collect();
+    let patterns = held.iter().enumerate().filter(|(_, held)| held.memory != 0);
+    let patterns: Vec<String> = patterns.map(|(x, held)| format!("L{x}: {}", held.words())).collect();
+    if !patterns.is_empty() {
+        line(&mut text, "", "at power-on", &patterns);
+    }
     for action in actions(log, schedule) {
         let mut changes = match &action {
             Action::Event(_, event) if event.operation == Operation::SetCrash => losses(log, &held, event),
@@ -59,9 +64,13 @@ fn run(log: &Log, schedule: &Schedule) -> String {
             Action::Event(number, event) => (number.to_string(), event.to_string()),
             Action::Silent(step) => (String::new(), silent(step)),
         };
-        let _ = writeln!(text, "{number:>4}  {words:<30}  {}", changes.join("; "));
+        line(&mut text, &number, &words, &changes);
     }
     text
+}
+
+fn line(text: &mut String, number: &str, words: &str, changes: &[String]) {
+    let _ = writeln!(text, "{number:>4}  {words:<30}  {}", changes.join("; "));
 }
 
 /// What each machine of a set crash loses in its one step: copies, and values in a volatile memory.
@@ -73,7 +82,7 @@ fn losses(log: &Log, held: &[Held], crash: &Event) -> Vec<String> {
     let loses = |machine: u8| {
         let copies = listed(&|_, held| held.by(machine));
         let forgets = |x| log.owner(x) == machine && !log.is_persistent(machine);
-        let memory = listed(&|x, held| forgets(x) && held.memory != 0);
+        let memory = listed(&|x, held| forgets(x) && held.memory != log.initial(x));
         match (copies.as_str(), memory.as_str()) {
             ("", "") => format!("{machine} loses nothing"),
             (copies, "") => format!("{machine} loses {copies} from its cache"),
@@ -124,7 +133,7 @@ fn impossible(log: &Log, number: usize, judge: &mut Judge) -> Result<String, Fai
         count => format!("The {count} events before it can be explained, and then"),
     });
     let _ = writeln!(text, " a load by {machine} of L{location} can return {}, not {value}.", values.join(" or "));
-    if value != 0 && !stored(before, location).any(|stored| stored == value) {
+    if value != log.initial(location) && !stored(before, location).any(|stored| stored == value) {
         let _ = writeln!(text, "Nothing before it stores {value} to L{location}.");
     } else {
         text.push_str(&constraints(log, number, &event, judge)?);
@@ -144,10 +153,10 @@ fn is_allowed(log: &Log, events: &[Event], judge: &mut Judge) -> Result<bool, Fa
 }
 
 /// The values that the load, or that of a read-modify-write, could have returned after these events, each found by
-/// judging. No other value can be there than 0 and what was stored.
+/// judging. No other value can be there than the initial one and what was stored.
 fn loadable(log: &Log, before: &[Event], load: &Event, judge: &mut Judge) -> Result<Vec<u16>, Failure> {
     let mut candidates: BTreeSet<u16> = stored(before, load.location).collect();
-    candidates.insert(0);
+    candidates.insert(log.initial(load.location));
     let mut values = Vec::new();
     for value in candidates {
         let events = [before, &[Event { value, ..*load }]].concat();
@@ -177,9 +186,7 @@ fn constraints(log: &Log, number: usize, load: &Event, judge: &mut Judge) -> Res
 
 /// What the log says of a location up to an event.
 fn history(log: &Log, number: usize, location: u8) -> String {
-    let owner = log.owner(location);
-    let kind = if log.is_persistent(owner) { "persistent" } else { "volatile" };
-    let mut text = format!("\nAll that concerns L{location}, in the {kind} memory of {owner}:\n");
+    let mut text = format!("\nAll that concerns {}:\n", place(log, location));
     for (e, event) in log.events[..number].iter().enumerate() {
         if event.concerns(location) {
             let mark = if e + 1 == number { "  <- impossible" } else { "" };

@@ -37,7 +37,7 @@ pub fn actions(log: &Log, schedule: &Schedule) -> Vec<Action> {
 }
 
 /// What one location holds in a run. Copies agree, so one value is enough.
-#[derive(Clone, Copy, Default, PartialEq, Eq)]
+#[derive(Clone, Copy, PartialEq, Eq)]
 pub struct Held {
     /// Bit i - 1 is set if machine i's cache holds a copy.
     pub sharers: u8,
@@ -46,6 +46,11 @@ pub struct Held {
 }
 
 impl Held {
+    /// At power-on no cache holds it, and the memory has its initial value.
+    pub fn at_power_on(log: &Log, location: u8) -> Held {
+        Held { sharers: 0, copy: 0, memory: log.initial(location) }
+    }
+
     pub fn by(&self, machine: u8) -> bool {
         self.sharers >> (machine - 1) & 1 == 1
     }
@@ -75,7 +80,7 @@ impl Held {
                     Operation::Crash | Operation::SetCrash => {
                         let crashed = event.crashed();
                         let forgotten = crashed.contains(owner) && !log.is_persistent(owner);
-                        let memory = if forgotten { 0 } else { memory };
+                        let memory = if forgotten { log.initial(location) } else { memory };
                         Held { sharers: sharers & !crashed.bits(), copy, memory }
                     }
                 }
@@ -90,6 +95,17 @@ impl Held {
             None => format!("no cache holds it, memory {}", self.memory),
         }
     }
+}
+
+/// Where a location lives, in words.
+pub fn place(log: &Log, location: u8) -> String {
+    let owner = log.owner(location);
+    let kind = if log.is_persistent(owner) { "persistent" } else { "volatile" };
+    let initially = match log.initial(location) {
+        0 => String::new(),
+        initial => format!(", initially {initial}"),
+    };
+    format!("L{location}, in the {kind} memory of {owner}{initially}")
 }
 
 /// What the caches of a set of machines do, in words, or nothing if there is none.

@@ -84,8 +84,8 @@ fn head(log: &Log) -> String {
         }
     }
     head.push('\n');
-    for (number, owner) in log.owners.iter().enumerate() {
-        let _ = writeln!(head, "L{number} of {owner}");
+    for (number, home) in log.homes.iter().enumerate() {
+        let _ = writeln!(head, "L{number} of {home}");
     }
     head.push('\n');
     head

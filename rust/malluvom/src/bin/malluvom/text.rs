@@ -1,12 +1,12 @@
 //! The lines of the text form, which docs/TEXT-FORM.md describes.
 
-use malluvom::{Event, MachineSet, Operation};
+use malluvom::{Event, Home, MachineSet, Operation};
 
 /// One line of a text.
 pub enum Line {
     Unchecked,
     Machines { count: u8, persistent: u8 },
-    Location { number: u8, owner: u8 },
+    Location { number: u8, home: Home },
     Event(Event),
     Silent { location: u8, machine: u8 },
     Bytes(Vec<u8>),
@@ -40,10 +40,9 @@ pub fn parse(line: &str) -> Result<Option<Line>, String> {
         "end" => none(rest, Line::End)?,
         name => match Operation::ALL.iter().find(|operation| operation.to_string().eq_ignore_ascii_case(name)) {
             Some(&operation) => Line::Event(event(operation, rest)?),
-            None => match (location_number(first), rest) {
-                (Ok(number_of), [owner]) => Line::Location { number: number_of, owner: number(owner)? },
-                (Ok(_), _) => return Err(format!("a location is '{first} of' and its owner")),
-                (Err(_), _) => return Err(format!("'{first}' begins no line of the text form")),
+            None => match location_number(first) {
+                Ok(number) => Line::Location { number, home: home(rest)? },
+                Err(_) => return Err(format!("'{first}' begins no line of the text form")),
             },
         },
     };
@@ -75,6 +74,14 @@ fn machines(rest: &[&str]) -> Result<Line, String> {
         })?,
     };
     Ok(Line::Machines { count, persistent })
+}
+
+fn home(rest: &[&str]) -> Result<Home, String> {
+    match rest {
+        [owner] => Ok(Home { owner: number(owner)?, initial: 0 }),
+        [owner, "initially", initial] => Ok(Home { owner: number(owner)?, initial: number(initial)? }),
+        _ => Err("a location is 'L0 of 2', or 'L0 of 2 initially 7'".into()),
+    }
 }
 
 fn event(operation: Operation, rest: &[&str]) -> Result<Event, String> {
