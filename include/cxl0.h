@@ -14,7 +14,7 @@
 extern "C" {
 #endif
 
-/* Refusals, in the words of the glossary. None has the number 14. */
+/* Refusals, in the words of the glossary. */
 enum cxl0_refusal {
     CXL0_BUFFER_TOO_SHORT = 1,
     CXL0_TRUNCATED = 2,
@@ -29,6 +29,7 @@ enum cxl0_refusal {
     CXL0_RESERVED_NOT_ZERO = 11,
     CXL0_TRAILING_BYTES = 12,
     CXL0_BAD_SCHEDULE = 13,
+    CXL0_BAD_INITIAL_VALUE = 14,
     CXL0_BAD_MACHINE_SET = 15
 };
 
@@ -37,12 +38,13 @@ enum cxl0_refusal {
 /* The scratch must have at least so many 64-bit numbers. */
 #define CXL0_SCRATCH_LEAST 4096
 /* An accepted log has at most so many bytes. */
-#define CXL0_LOG_MOST 1416
+#define CXL0_LOG_MOST 1480
 
 /* Puts one field after the first `used` bytes of `buf`; no other byte changes. Bits 8 to 39: the new count of used
- * bytes. docs/FORMAT.md has the payload of each tag. That of a set crash, tag 3, is operation 11, a machine byte 0, the
- * set of two machines or more, with bit i - 1 for machine i, and a value of 0: {11, 0, 3, 0, 0} crashes machines 1 and
- * 2 in one step. */
+ * bytes. docs/FORMAT.md has the payload of each tag. That of a location, tag 2, is its owner and, unless it is 0, the
+ * initial value of its memory, low byte first: {2, 7, 0} is machine 2's and starts as 7. That of a set crash, tag 3, is
+ * operation 11, a machine byte 0, the set of two machines or more, with bit i - 1 for machine i, and a value of 0:
+ * {11, 0, 3, 0, 0} crashes machines 1 and 2 in one step. */
 uint64_t cxl0_record(uint8_t *buf, size_t buf_len, size_t used, uint8_t tag, const uint8_t *payload,
                      size_t payload_len);
 

@@ -17,9 +17,8 @@ from typing import NamedTuple, Optional, Tuple
 
 FILE_MOST = 1544
 SCRATCH_LEAST = 4096
-LOG_MOST = 1416
+LOG_MOST = 1480
 
-# No refusal has the number 14.
 REFUSALS = {
     1: "BufferTooShort",
     2: "Truncated",
@@ -34,6 +33,7 @@ REFUSALS = {
     11: "ReservedNotZero",
     12: "TrailingBytes",
     13: "BadSchedule",
+    14: "BadInitialValue",
     15: "BadMachineSet",
 }
 

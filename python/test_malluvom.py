@@ -109,8 +109,40 @@ class Calls(unittest.TestCase):
             end = malluvom.record(buffer, end, 4, b"")
             self.assertEqual(answer(bytes(buffer[:end])), expected)
 
+    def test_initial_value(self):
+        buffer = bytearray(malluvom.LOG_MOST)
+        # Two machines, of which 1 is persistent.
+        used = malluvom.record(buffer, 0, 1, b"\x02\x01")
+        for number, payload in (
+            (14, b"\x02\0\0"),
+            (6, b"\x03\0\0"),
+            (6, b"\0\x07\0"),
+            (4, b""),
+            (4, b"\x02\x07"),
+            (4, b"\x02\x07\0\0"),
+        ):
+            self.refused(number, malluvom.record, buffer, used, 2, payload)
+        # L0 is 2's and starts as 256; MStore by 1 to L0 of 5, and 2 crashes.
+        used = malluvom.record(buffer, used, 2, b"\x02\0\x01")
+        self.assertEqual(bytes(buffer[5:used]), b"\x02\x03\0\x02\0\x01")
+        stored = malluvom.record(buffer, used, 3, b"\x03\x01\0\x05\0")
+        crashed = malluvom.record(buffer, stored, 3, b"\x07\x02\0\0\0")
+        for before, value, expected in (
+            (used, 256, "allowed 0"),
+            (used, 0, "impossible 1"),
+            (used, 1, "impossible 1"),
+            (stored, 256, "impossible 2"),
+            (crashed, 256, "allowed 0"),
+            (crashed, 0, "impossible 3"),
+            (crashed, 5, "impossible 3"),
+        ):
+            log = bytearray(buffer)
+            end = malluvom.record(log, before, 3, b"\x04\x01\0" + value.to_bytes(2, "little"))
+            end = malluvom.record(log, end, 4, b"")
+            self.assertEqual(answer(bytes(log[:end])), expected)
+
     def test_the_longest_log(self):
-        log = bytes.fromhex("0102000600") + bytes.fromhex("02010006") * 32
+        log = bytes.fromhex("0102000600") + bytes.fromhex("020300060100") * 32
         log += bytes.fromhex("0507000901000000 0000") * 128 + bytes.fromhex("040000")
         self.assertEqual(len(log), malluvom.LOG_MOST)
         self.assertEqual(malluvom.read(log), malluvom.Counts(machines=6, locations=32, events=128))
@@ -133,8 +165,9 @@ class Calls(unittest.TestCase):
         self.assertFalse(any(scratch))
 
     def test_names(self):
-        names = [malluvom.Refused(number).name for number in (1, 13, 15)]
-        self.assertEqual(names, ["BufferTooShort", "BadSchedule", "BadMachineSet"])
+        names = [malluvom.Refused(number).name for number in (1, 13, 14, 15)]
+        self.assertEqual(names, ["BufferTooShort", "BadSchedule", "BadInitialValue", "BadMachineSet"])
+        self.assertEqual(sorted(malluvom.REFUSALS), list(range(1, 16)))
 
 
 def load_tests(loader, tests, pattern):
