@@ -24,8 +24,8 @@ const KINDS: [Kind; 8] = [
 
 const SMALL: &str = "9 every log of three events or fewer, two machines, one location, two values";
 
-/// At least so many accepted logs of each kind have a read-modify-write, at least so many a set crash, and at least so many
-/// an initial value: what is not made is not compared.
+/// At least so many accepted logs of each kind have a read-modify-write, at least so many a set crash, and at least so
+/// many an initial value: what is not made is not compared.
 const LEAST: usize = 1000;
 
 /// Compares all logs of each kind; each round takes other seeds. The small logs are not random and come once.

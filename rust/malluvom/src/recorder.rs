@@ -1,7 +1,7 @@
 use crate::{record, Home, MachineSet, Refusal};
 
-/// An accepted log has at most 32 locations, of which those with an initial value are the longest, and 128 events, of which
-/// read-modify-writes are.
+/// An accepted log has at most 32 locations, of which those with an initial value are the longest, and 128 events, of
+/// which read-modify-writes are.
 const LOG_MOST: usize = 5 + 32 * 6 + 128 * 10 + 3;
 
 /// Builds a log field by field; each is checked by the proved recorder.
@@ -28,8 +28,8 @@ impl Recorder {
         self.location_initially(owner, 0)
     }
 
-    /// The next location, in the memory of this machine, which holds the initial value at power-on and, if it is volatile,
-    /// again after a crash. The field of 0 is the short one.
+    /// The next location, in the memory of this machine, which holds the initial value at power-on and, if it is
+    /// volatile, again after a crash. The field of 0 is the short one.
     pub fn location_initially(&mut self, owner: u8, initial: u16) -> Result<(), Refusal> {
         self.field(0x02, &Home { owner, initial }.payload())
     }

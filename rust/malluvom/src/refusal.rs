@@ -30,7 +30,7 @@ pub enum Refusal {
     TrailingBytes,
     /// The verdict file is no schedule for this log.
     BadSchedule,
-    /// The initial value 0 in the long form of a location's field. The short form says it, so that a log has one byte form.
+    /// The initial value 0 in the long form of a location's field; the short form says it.
     BadInitialValue,
     /// A set crash of fewer than two machines, or of one that is outside 1 to the machine count.
     BadMachineSet,

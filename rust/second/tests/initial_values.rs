@@ -85,7 +85,7 @@ fn each_location_starts_with_its_own() {
     }
 }
 
-/// For every set of three machines, one alone among them: what a volatile machine of the set owns returns, and nothing else.
+/// For every set of three machines, of one alone too: what a volatile machine of the set owns returns, and nothing else.
 #[test]
 fn a_crash_returns_what_the_machine_owns() {
     let homes = [(1, 7), (2, 9), (1, 256)];
