@@ -3,7 +3,7 @@ ghost use mathlib.Core.Path.{_≡_};
 ghost use mathlib.Core.Bool.{_&&_};
 ghost use Prim.Native.Nat.{_≤_};
 ghost use lib.ListN.{getD};
-ghost use Rattle.model.specs.Cxl0.{nowhere, isMachine, isLocation, owner, initial, named, event, SetCrash};
+ghost use Rattle.model.specs.Cxl0.{nowhere, isMachine, isLocation, named, event, SetCrash};
 ghost use Rattle.model.specs.Meaning.{homeOf, topologyOf, ownersFit, withinLimits};
 use super::Home;
 use super::LOCATIONS;
@@ -67,24 +67,17 @@ impl Topology {
         (at < count) & (at < LOCATIONS)
     }
 
-    // Where a location lives, and the value that its memory holds at the start.
+    // Where a location lives, and the value that its memory holds at the start and after a crash that clears it.
     pub fn home(self, x: Location) -> Home
         ensures { λ r. ⌜ homeOf r ≡ getD (topologyOf self .homes) (x .0) nowhere ⌝ }
     {
         if self.is_location(x) {
             let at = x.0 as usize;
-            self.homes[at]
+            let h = self.homes[at];
+            h
         } else {
             NOWHERE
         }
-    }
-
-    // The owner of a location, or machine 0, which is none.
-    pub fn owner(self, x: Location) -> Machine
-        ensures { λ r. ⌜ r .0 ≡ owner (topologyOf self) (x .0) ⌝ }
-    {
-        let h = self.home(x);
-        h.owner
     }
 
     // Machine i's memory is persistent.
@@ -93,14 +86,6 @@ impl Topology {
     {
         let persistent = self.persistent;
         persistent & bit(i) != 0
-    }
-
-    // The value of a location's memory at the start, and after a crash that clears it.
-    pub fn initial(self, x: Location) -> u32
-        ensures { λ r. ⌜ r ≡ initial (topologyOf self) (x .0) ⌝ }
-    {
-        let h = self.home(x);
-        h.initial
     }
 
     // Within the limits, with this machine and this location.

@@ -51,7 +51,8 @@ impl State {
         let mut at: usize = 0;
         while at < LOCATIONS {
             let y = at as u8;
-            entries[at] = Entry::start(t.initial(Location(y)));
+            let h = t.home(Location(y));
+            entries[at] = Entry::start(h.initial);
             at += 1;
         }
         State { entries }

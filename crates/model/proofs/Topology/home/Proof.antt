@@ -18,8 +18,8 @@ listed c =
     let h = c .before .before in
     listed-e (h .args .t1) (room h) (h .args .x .0) (sym (c .before .is-location .ensures) ∙ c .if1 .taken)
 
-element-copy-out-result : tie.Need-element-copy-out-result
-element-copy-out-result c = listed (c .before) .1
+element-copy-out-h : tie.Need-element-copy-out-h
+element-copy-out-h c = listed (c .before) .1
 
 returns : tie.Need-returns
 returns c =
@@ -34,4 +34,4 @@ returns-2 c =
 pub home-spec : {M : Type 1} → statement M
 home-spec =
     tie.close
-    (tie.spec nothing (λ c. search needs) (λ c. search needs) element-copy-out-result returns returns-2)
+    (tie.spec nothing (λ c. search needs) (λ c. search needs) element-copy-out-h returns returns-2)

@@ -5,7 +5,7 @@ use native.Mathlib.Omega.{arith}
 use mathlib.Core.Path.{_≡_, refl, ap, _∙_}
 use borrow.Author.Tests.{le-ltb}
 use lib.ListN.{length, getD, length-set, replicate}
-use Rattle.model.specs.Cxl0.{initial, start}
+use Rattle.model.specs.Cxl0.{Home, initial, start}
 use Rattle.model.specs.Meaning.{topologyOf}
 use Rattle.model.specs.declared.Topology as topology
 use Rattle.entries.specs.Entries.{startEntry, emptyEntry}
@@ -53,11 +53,12 @@ loop-less : tie.Need-loop-less Inv-loop μ-loop
 loop-less c = omega arith
 
 loop-again : tie.Need-loop-again Inv-loop μ-loop
+unfolding initial
 loop-again c =
     let filled = c .before in
     let l = filled .before .before .loop in
     let sys = topologyOf (filled .before .before .before .args .t) in
-    let value = c .start .ensures ∙ ap startEntry (filled .initial .ensures) in
+    let value = c .start .ensures ∙ ap (λ (h : Home). startEntry (h .initial)) (filled .home .ensures) in
     let next = one-more emptyEntry (λ y. startEntry (initial sys y)) (λ y. emptyEntry) (l .entries) (l .at) in
     (length-set (l .entries) _ _ ∙ l .inv .0, next (l .inv .1) (omega (arith, l .inv .0)) _ value)
 
