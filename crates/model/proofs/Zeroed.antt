@@ -1,35 +1,43 @@
 -- Of a system that wakes up as zero `Cxl0` says what document 01 says of it: the start is the same, every action leaves
 -- the same state, and so the same lists are runs.
 use Prim.Native.Nat.{ℕ}
-use mathlib.Core.Path.{_≡_, refl, sym, ap, _∙_}
+use mathlib.Core.Path.{_≡_, refl, ap, _∙_}
 use mathlib.Core.Logic.{_↔_}
-use mathlib.Core.Bool.{cond, _&&_}
+use mathlib.Core.Bool.{Bool, true, false, cond, _&&_}
 use mathlib.Core.List.{List, [], _∷_}
 use mathlib.Core.Option.{none}
 use lib.Dec.{T}
 use lib.ListN.{take}
-use Rattle.model.specs.Cxl0.{Topology, initial, State, start, crashes, clears, crashed, possible, next, runs}
+use Rattle.model.specs.Cxl0.{Location, Value, Topology, initial, State, start, crashes, clears, crashed}
+use Rattle.model.specs.Cxl0.{possible, next, runs}
 use Rattle.model.specs.Cxl0.{Event, LStore, RStore, MStore, Load, LFlush, RFlush, Crash, SetCrash, RMW}
 use Rattle.model.specs.Cxl0.{Action, event, silent, Run, HasRun, FirstImpossible}
-use Rattle.model.specs.OneLocation.{isCrash, locationOf}
 use Rattle.model.specs.Zeroed as zeroed
 use Rattle.model.specs.Zeroed.{WakesAsZero}
 
 module _ (sys : Topology) (wakes : WakesAsZero sys) where
+  -- A value that is cleared to 0 is 0 by being cleared to the initial value already,
+  same-cleared : (b : Bool) (x : Location) (m : Value) → cond b (initial sys x) m ≡ cond b 0 (cond b (initial sys x) m)
+  same-cleared true x m = wakes x
+  same-cleared false x m = refl
+
+  -- and so is every memory after a crash.
+  same-crash : (e : Event) (s : State)
+      → crashed sys e s
+      ≡ record { cache = crashed sys e s .cache; memory = λ y. cond (clears sys e y) 0 (crashed sys e s .memory y) }
+  same-crash e s =
+      λ i. record {
+        cache = crashed sys e s .cache;
+        memory = λ y. same-cleared (clears sys e y) y (s .memory y) i;
+      }
+
   pub same-start : start sys ≡ zeroed.start
   unfolding start zeroed.start
   same-start = λ i. record { cache = λ j x. none; memory = λ x. wakes x i }
 
-  -- A crash that returns memories to their initial values makes them 0.
-  same-crash : (e : Event) (s : State) → crashed sys e s ≡ zeroed.crashed sys e s
-  same-crash e s =
-      λ i. record {
-        cache = λ j y. cond (crashes e j) none (s .cache j y);
-        memory = λ y. cond (clears sys e y) (wakes y i) (s .memory y);
-      }
-
+  -- Where an event clears nothing there is nothing to show; what a crash returns to its initial value is 0.
   pub same-next : (a : Action) (s : State) → next sys a s ≡ zeroed.next sys a s
-  unfolding zeroed.next next isCrash locationOf
+  unfolding zeroed.next next crashes clears
   same-next (event (LStore i x v)) s = refl
   same-next (event (RStore i x v)) s = refl
   same-next (event (MStore i x v)) s = refl
@@ -41,6 +49,7 @@ module _ (sys : Topology) (wakes : WakesAsZero sys) where
   same-next (event (RMW form i x v w)) s = refl
   same-next (silent a) s = refl
 
+  -- So each action of a list is possible in its turn, or not, alike.
   same-runs : (acts : List Action) (s : State) → runs sys acts s ≡ zeroed.runs sys acts s
   unfolding runs zeroed.runs
   same-runs [] s = refl

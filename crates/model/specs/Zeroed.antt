@@ -9,8 +9,7 @@ use lib.Dec.{T}
 use lib.ListN.{length, take}
 use Rattle.model.specs.Cxl0
 use Rattle.model.specs.Cxl0.{Location, Topology, initial, State, Event, Action, event, silent}
-use Rattle.model.specs.Cxl0.{crashes, clears, possible, events}
-use Rattle.model.specs.OneLocation.{isCrash}
+use Rattle.model.specs.Cxl0.{clears, possible, events}
 
 -- A system of which document 01 speaks.
 abbrev pub WakesAsZero : Topology → Type 0
@@ -19,16 +18,11 @@ WakesAsZero sys = (x : Location) → initial sys x ≡ 0
 unfoldable pub start : State
 start = record { cache = λ i x. none; memory = λ x. 0 }
 
-abbrev pub crashed : Topology → Event → State → State
-crashed sys e s =
-    record {
-      cache = λ j y. cond (crashes e j) none (s .cache j y);
-      memory = λ y. cond (clears sys e y) 0 (s .memory y);
-    }
-
--- Every other event, and every silent step, is as it was.
+-- What an event clears is 0; all else is as `Cxl0` has it, and so is what a silent step leaves.
 unfoldable pub next : Topology → Action → State → State
-next sys (event e) s = cond (isCrash e) (crashed sys e s) (Cxl0.next sys (event e) s)
+next sys (event e) s =
+    let t = Cxl0.next sys (event e) s in
+    record { cache = t .cache; memory = λ y. cond (clears sys e y) 0 (t .memory y) }
 next sys (silent a) s = Cxl0.next sys (silent a) s
 
 unfoldable pub runs : Topology → List Action → State → Bool

@@ -1,5 +1,5 @@
--- Of a log all of whose locations have rows of length 1, what is said of runs is said of document 01's: memories start as
--- zero.
+-- Of a log all of whose locations have rows of length 1, what is said of runs is said of document 01's: memories
+-- start as zero.
 use Prim.Native.Nat.{ℕ}
 use mathlib.Core.Path.{_≡_, sym, _∙_}
 use mathlib.Core.Logic.{_↔_}

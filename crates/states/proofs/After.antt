@@ -102,9 +102,11 @@ module _ (t : topology.Topology) (y : Location) (none : T (isLocation (topologyO
   lost-none e c less =
       let z = zero-mod (2 ^ t .machines) in
       let k : c ≡ 0 % 2 ^ t .machines = omega arith in
-      let begins = initial-nowhere (topologyOf t) y (by-test (isLocation (topologyOf t) y) (λ l. absurd (none l)) not→false) in
-      let cleared = clears (topologyOf t) e y in
-      let m : cond cleared (initial (topologyOf t) y) (nowhere .initial) ≡ nowhere .initial = rw begins (same cleared _) in
+      let sys = topologyOf t in
+      let unlisted = by-test (isLocation sys y) (λ l. absurd (none l)) not→false in
+      let cleared = clears sys e y in
+      let m : cond cleared (initial sys y) (nowhere .initial) ≡ nowhere .initial =
+      rw (initial-nowhere sys y unlisted) (same cleared _) in
       λ j. record { code = k j; copy = 0; memory = m j }
 
   nothing-lost : {e : Event} → IsCrash e → effect (siteOf (topologyOf t) y) (event e) empty ≡ empty

@@ -65,7 +65,8 @@ module _ (t : topology.Topology) where
     unfolding entryAt startState
     entry-at y =
         let sys = topologyOf t in
-        let past : 32 ≤ y → isLocation sys y ≡ false = λ l. rw (listed t room y, le-ltb y 32 l) (and-false (ltb y (t .locations))) in
+        let past : 32 ≤ y → isLocation sys y ≡ false =
+        λ l. rw (listed t room y, le-ltb y 32 l) (and-false (ltb y (t .locations))) in
         by-test (ltb y 32)
         (λ q. let l = ltb→lt y 32 q in let z : 0 + y ≡ y = omega arith in rw z at (start-at sys 32 0 y l))
         (λ q.
