@@ -6,7 +6,6 @@ use mathlib.Core.Logic.{_↔_}
 use mathlib.Core.Bool.{Bool, true, false, cond, _&&_}
 use mathlib.Core.List.{List, [], _∷_}
 use mathlib.Core.Option.{none}
-use lib.Dec.{T}
 use lib.ListN.{take}
 use Rattle.model.specs.Cxl0.{Location, Value, Topology, initial, State, start, crashes, clears, crashed}
 use Rattle.model.specs.Cxl0.{possible, next, runs}

@@ -4,11 +4,9 @@ use native.Mathlib.Nat.{le-refl}
 use native.Mathlib.Omega.{arith}
 use mathlib.Core.Path.{_≡_, sym, ap, _∙_}
 use mathlib.Core.Bool.{Bool, cond, _&&_, and-true}
-use mathlib.Core.Logic.{_≢_}
 use borrow.Author.Tests.{lt-ltb, le-ltb}
-use lib.Dec.{T, eqb, ltb, eqb→eq, ltb→lt, lt→ltb}
+use lib.Dec.{T, ltb}
 use lib.ListN.{length, set}
-use lib.Seq.{getD-set-same, getD-set-other}
 use Rattle.model.specs.Cxl0
 use Rattle.model.specs.Cxl0.{Location, State, Event, named, enabled, possible}
 use Rattle.model.specs.OneLocation.{isCrash, eventAt, concerns, siteOf}
@@ -21,7 +19,7 @@ use Rattle.model.specs.declared.Topology as topology
 use Rattle.entries.specs.declared.Entry as entry
 use Rattle.entries.specs.declared.Acted as acted
 use Rattle.states.specs.declared.State as state
-use Rattle.model.proofs.Tests.{by-test, same-test, ne-test, T→true}
+use Rattle.model.proofs.Tests.{T→true}
 use Rattle.model.proofs.Locations.{nowhere-crash, crash-everywhere, crash-enabled}
 use Rattle.states.proofs.After.{all-after}
 use Rattle.states.proofs.Filling.{one-more}

@@ -16,7 +16,6 @@ use Rattle.model.specs.declared.Topology as topology
 use Rattle.entries.specs.Entries.{shortOf, startEntry, emptyEntry, maskedTo}
 use Rattle.entries.specs.declared.Entry as entry
 use Rattle.states.specs.States.{entryAt, localOf, stateOf, startEntries, startState}
-use Rattle.states.specs.declared.State as state
 use Rattle.model.proofs.Tests.{by-test}
 use Rattle.model.proofs.Limits.{listed, initial-nowhere}
 use Rattle.model.proofs.Expand.{start-expand}
