@@ -1,8 +1,8 @@
 -- What an entry and a site mean, and what an action makes of an entry, in the words of `Cxl0`.
 use Prim.Native.Nat.{ℕ, _%_, _^_}
-use mathlib.Core.Bool.{false, cond}
+use mathlib.Core.Bool.{false, cond, not}
 use Rattle.model.specs.Cxl0
-use Rattle.model.specs.Cxl0.{Value, nowhere, Action}
+use Rattle.model.specs.Cxl0.{Value, Home, nowhere, Topology, Action}
 use Rattle.model.specs.OneLocation.{Local, Site, enabledAt, effect}
 use Rattle.model.specs.Operations.{isOperation}
 use Rattle.model.specs.Meaning.{meant}
@@ -14,6 +14,11 @@ use Rattle.entries.specs.declared.Site as site
 -- What the program's site says of its location.
 abbrev pub siteMeant : site.Site → Site
 siteMeant s = record { owner = s .owner .0; volatile = s .volatile; initial = s .initial }
+
+-- The site of a location that lives there.
+unfoldable pub siteAt : Topology → Home → Site
+siteAt sys h =
+    record { owner = h .owner; volatile = not (sys .persistent (h .owner)); initial = h .initial }
 
 -- The short form that an entry stands for.
 unfoldable pub shortOf : entry.Entry → Local

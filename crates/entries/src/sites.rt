@@ -1,17 +1,18 @@
 // What the topology says of a location.
 ghost use mathlib.Core.Path.{_≡_};
 ghost use Rattle.model.specs.OneLocation.{siteOf};
-ghost use Rattle.model.specs.Meaning.{topologyOf};
-ghost use Rattle.entries.specs.Entries.{siteMeant};
+ghost use Rattle.model.specs.Meaning.{homeOf, topologyOf};
+ghost use Rattle.entries.specs.Entries.{siteMeant, siteAt};
 use super::Site;
+use model::Home;
 use model::Location;
 use model::Topology;
 
 impl Site {
-    pub fn of(t: Topology, x: Location) -> Site
-        ensures { λ r. ⌜ (siteMeant r ≡ siteOf (topologyOf t) (x .0)) × (r .location ≡ x) ⌝ }
+    // A location that lives there.
+    pub fn at(t: Topology, x: Location, h: Home) -> Site
+        ensures { λ r. ⌜ (siteMeant r ≡ siteAt (topologyOf t) (homeOf h)) × (r .location ≡ x) ⌝ }
     {
-        let h = t.home(x);
         let owner = h.owner;
         Site {
             location: x,
@@ -19,5 +20,11 @@ impl Site {
             volatile: !t.is_persistent(owner),
             initial: h.initial,
         }
+    }
+
+    pub fn of(t: Topology, x: Location) -> Site
+        ensures { λ r. ⌜ (siteMeant r ≡ siteOf (topologyOf t) (x .0)) × (r .location ≡ x) ⌝ }
+    {
+        Site::at(t, x, t.home(x))
     }
 }

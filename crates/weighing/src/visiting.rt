@@ -7,6 +7,10 @@ use model::Location;
 use model::Topology;
 use search::explaining::explain;
 ghost use Prim.Native.Nat.{suc};
+ghost use mathlib.Core.Path.{_≡_};
+ghost use Rattle.model.specs.OneLocation.{siteOf};
+ghost use Rattle.model.specs.Meaning.{topologyOf};
+ghost use Rattle.entries.specs.Entries.{siteMeant};
 ghost use Rattle.weighing.specs.Weighing.{Weighable};
 ghost use Rattle.weighing.specs.Visiting.{Visitable, Visited};
 
@@ -16,16 +20,16 @@ pub struct Progress {
     pub steps: usize,
 }
 
-// Visits location x: the events that go on from it, and the steps with those of its schedule.
-fn visit(w: &mut [u64], t: Topology, x: Location, all: usize, p: Progress) -> Progress
-    requires { ⌜ Visitable t all (x .0) p (now w) ⌝ }
-    ensures { λ r. ⌜ Visited t all (suc (x .0)) (now (w .entry)) r (now (w .exit)) ⌝ }
+// Visits the location of a site: the events that go on from it, and the steps with those of its schedule.
+fn visit(w: &mut [u64], t: Topology, site: Site, all: usize, p: Progress) -> Progress
+    requires { ⌜ Visitable t all (site .location .0) p (now w)
+        × (siteMeant site ≡ siteOf (topologyOf t) (site .location .0)) ⌝ }
+    ensures { λ r. ⌜ Visited t all (suc (site .location .0)) (now (w .entry)) r (now (w .exit)) ⌝ }
 {
-    let count = pick_events(w, x, p.events);
+    let count = pick_events(w, site.location, p.events);
     if count == 0 {
         return p;
     }
-    let site = Site::of(t, x);
     let found = explain(w, site, count, p.steps);
     if found.events < count {
         return Progress {
@@ -43,7 +47,7 @@ fn visit(w: &mut [u64], t: Topology, x: Location, all: usize, p: Progress) -> Pr
     }
 }
 
-// Visits every location.
+// Visits every location. Where it lives is looked up here: a call that takes a location's number would copy the topology.
 pub(crate) fn visit_all(w: &mut [u64], t: Topology, events: usize) -> Progress
     requires { ⌜ Weighable t events (now w) ⌝ }
     ensures { λ r. ⌜ Visited t events (t .locations) (now (w .entry)) r (now (w .exit)) ⌝ }
@@ -51,7 +55,9 @@ pub(crate) fn visit_all(w: &mut [u64], t: Topology, events: usize) -> Progress
     let mut p = Progress { events, steps: 0 };
     let mut x: u8 = 0;
     while x < t.locations {
-        p = visit(w, t, Location(x), events, p);
+        let at = x as usize;
+        let h = t.homes[at];
+        p = visit(w, t, Site::at(t, Location(x), h), events, p);
         x += 1;
     }
     p

@@ -1,8 +1,7 @@
 -- `visit` searches one location more.
 use native.Mathlib.Omega.{arith}
-use mathlib.Core.Path.{_≡_, ap}
+use mathlib.Core.Path.{refl}
 use borrow.Author.Needs.{needs}
-use Rattle.model.specs.declared.Location.{Location}
 use Rattle.model.specs.Meaning.{topologyOf}
 use Rattle.rows.specs.Sites.{Describes}
 use Rattle.weighing.proofs.Described.{described}
@@ -11,62 +10,54 @@ use Rattle.weighing.proofs.Visits.{visit-same, visit-retimable, visit-e
 use Rattle.weighing.proofs.visiting.visit.Statement.{statement}
 use Rattle.weighing.proofs.visiting.visit.Tie as tie
 
--- The beginning; the events picked; the site, which is that of x; the events explained.
+-- The beginning; the events picked; the site, which describes its location; the events explained.
 abbrev start : tie.After-pick-events → tie.Start
 start c = c .before .before .before
 
-abbrev picks : tie.After-of → tie.After-pick-events
-picks c = c .before .before .before .before
+abbrev picks : tie.Else1 → tie.After-pick-events
+picks c = c .before .before .before
 
-here : (c : tie.After-of) → c .of .result .location .0 ≡ start (picks c) .args .x .0
-here c = ap (λ (l : Location). l .0) (c .of .ensures .1)
-
-describes : (c : tie.After-of) → Describes (topologyOf (start (picks c) .args .t)) (c .of .result)
+describes : (c : tie.Start) → Describes (topologyOf (c .args .t)) (c .args .site)
 describes c =
-    let begun = start (picks c) in
-    let can = begun .pre in
-    described (begun .args .t) (here c) (can .weighable .limits) (can .listed) (c .of .ensures .0)
+    let can = c .pre .0 in
+    described (c .args .t) refl (can .weighable .limits) (can .listed) (c .pre .1)
 
 abbrev explains : tie.After-struct-known → tie.After-explain
 explains c = c .before .before .before
 
 pick-events-requires : tie.Need-pick-events-requires
-pick-events-requires c κs = let s = c .before .before in (pick-can (s .pre), pick-low (s .pre))
+pick-events-requires c κs = let s = c .before .before in (pick-can (s .pre .0), pick-low (s .pre .0))
 
 returns : tie.Need-returns
-returns c = let k = c .before .before .before in visit-none (start k .pre) (k .pick-events .ensures) (c .if1 .taken)
+returns c = let k = c .before .before .before in visit-none (start k .pre .0) (k .pick-events .ensures) (c .if1 .taken)
 
 explain-requires : tie.Need-explain-requires
 explain-requires c κs =
-    let s = c .before in
-    let k = picks s in
-    visit-explainable (start k .pre) (k .pick-events .ensures) (here s) (describes s)
+    let k = picks (c .before) in
+    visit-explainable (start k .pre .0) (k .pick-events .ensures) refl (describes (start k))
 
 returns-2 : tie.Need-returns-2
 returns-2 c =
     let h = c .before .before in
     let f = explains (h .before) in
-    let s = f .before .before in
-    let k = picks s in
-    visit-ends (start k .pre) (k .pick-events .ensures) (here s) (describes s) (f .explain .ensures)
+    let k = picks (f .before .before) in
+    visit-ends (start k .pre .0) (k .pick-events .ensures) refl (describes (start k)) (f .explain .ensures)
     (h .if2 .taken) _ (c .index .ensures)
 
 returns-3 : tie.Need-returns-3
 returns-3 c =
     let h = c .before .before in
     let f = explains (h .before) in
-    let s = f .before .before in
-    let k = picks s in
-    visit-same (start k .pre) (k .pick-events .ensures) (here s) (describes s) (f .explain .ensures)
+    let k = picks (f .before .before) in
+    visit-same (start k .pre .0) (k .pick-events .ensures) refl (describes (start k)) (f .explain .ensures)
     (omega (arith, f .explain .ensures .most, h .if2 .left)) (c .if3 .taken)
 
 retime-requires : tie.Need-retime-requires
 retime-requires c κs =
     let h = c .before .before .before in
     let f = explains (h .before) in
-    let s = f .before .before in
-    let k = picks s in
-    visit-retimable (start k .pre) (k .pick-events .ensures) (here s) (describes s) (f .explain .ensures)
+    let k = picks (f .before .before) in
+    visit-retimable (start k .pre .0) (k .pick-events .ensures) refl (describes (start k)) (f .explain .ensures)
     (omega (arith, f .explain .ensures .most, h .if2 .left)) (c .before .if3 .left)
 
 returns-4 : tie.Need-returns-4
@@ -75,9 +66,8 @@ returns-4 c =
     let e = r .before .before in
     let h = e .before .before in
     let f = explains (h .before) in
-    let s = f .before .before in
-    let k = picks s in
-    visit-extends (start k .pre) (k .pick-events .ensures) (here s) (describes s) (f .explain .ensures)
+    let k = picks (f .before .before) in
+    visit-extends (start k .pre .0) (k .pick-events .ensures) refl (describes (start k)) (f .explain .ensures)
     (omega (arith, f .explain .ensures .most, h .if2 .left)) (e .if3 .left) (r .retime .ensures)
 
 pub visit-spec : {M : Type 1} → statement M
@@ -87,7 +77,6 @@ visit-spec =
     pick-events-requires
     (λ c. search needs)
     returns
-    (λ c κs. search needs)
     explain-requires
     (λ c κs. search needs)
     (λ c. search needs)
