@@ -47,7 +47,7 @@ fn visit(w: &mut [u64], t: Topology, site: Site, all: usize, p: Progress) -> Pro
     }
 }
 
-// Visits every location. Where it lives is looked up here: a call that takes a location's number would copy the topology.
+// Visits every location. Where it lives is looked up here, since a call would copy the topology.
 pub(crate) fn visit_all(w: &mut [u64], t: Topology, events: usize) -> Progress
     requires { ⌜ Weighable t events (now w) ⌝ }
     ensures { λ r. ⌜ Visited t events (t .locations) (now (w .entry)) r (now (w .exit)) ⌝ }
