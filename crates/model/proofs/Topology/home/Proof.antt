@@ -23,8 +23,9 @@ element-copy-out-h c = listed (c .before) .1
 
 returns : tie.Need-returns
 returns c =
-    let h = c .before .before in
-    home-at (h .before .before .args .t1) (h .before .before .args .x .0) (listed h .0)
+    let there = c .before .before in
+    let h = there .before .before .args in
+    home-at (h .t1) (h .x .0) (listed there .0)
 
 returns-2 : tie.Need-returns-2
 returns-2 c =

@@ -51,14 +51,14 @@ unfolding siteAt siteOf owner initial
 sited c =
     let h = c .before .before .before in
     let t = start h .args .t2 in
-    c .at .ensures .0 ∙ ap (siteAt (topologyOf t)) (home-at t (turn h .loop .x) (h .loop-test .taken))
+    c .at .ensures .0 ∙ ap (siteAt (topologyOf t)) (home-at t (turn h .loop .x) (omega arith))
 
 visit-requires : tie.Need-visit-requires Inv-loop μ-loop
 visit-requires c κs =
     let h = c .before .before .before in
     let t = start h .args .t2 in
     let x = turn h .loop .x in
-    let listed = is-listed t (full (start h)) (start h .pre .limits) x (h .loop-test .taken) in
+    let listed = is-listed t (full (start h)) (start h .pre .limits) x (omega arith) in
     let here = ap (λ (l : Location). l .0) (c .at .ensures .1) in
     rw here (visits-can (start h .pre) (turn h .loop .inv .1) listed, sited c)
 
