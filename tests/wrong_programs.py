@@ -5,7 +5,7 @@ their crate over an incremental folder that the unchanged crate has filled: an e
 rests on that. A refusal so comes from modules that were checked with the edit, and an edit that passes fails the gate.
 
 Of all edits it is asked besides that docs/WRONG-PROGRAMS.md has them, and no others, and that none does no more than make a proof
-file unfit for the code (`has no `Need-..``), which shows nothing of the contract.
+file unfit for the code (`unfit`), which shows nothing of the contract.
 
 Words: crates to try, as in `python3 tests/wrong_programs.py entries rows`; none: all. The last line is 'N passed, M failed'.
 """
@@ -22,7 +22,6 @@ from concurrent.futures import ThreadPoolExecutor
 ROOT = pathlib.Path(__file__).resolve().parent.parent
 TARGET = ROOT / "target"
 PAGE = ROOT / "docs" / "WRONG-PROGRAMS.md"
-UNFIT = "has no `Need"
 
 
 def edits_of(crate):
@@ -69,6 +68,12 @@ def check(crate, place):
     return run.returncode, run.stdout
 
 
+def unfit(log):
+    """The proof file asks for a place that the code no longer has, or the first error is a name that is not there."""
+    first = re.search(r": error: (.*)", log)
+    return "has no `Need" in log or bool(first and re.search(r"has no field|is not in scope", first[1]))
+
+
 def judged(status, log):
     """Why the edit counts as not refused, or None; and where the first error is."""
     first = re.search(r"^\S*/((?:src|specs|proofs)/\S+): error", log, re.M)
@@ -76,7 +81,7 @@ def judged(status, log):
         return "NOT REFUSED: the crate is still proved with this edit", None
     if status != 1 or not re.search(r"^logic=not-proved", log, re.M):
         return f"BAD EDIT: it did not reach the prover (status {status})", None
-    if UNFIT in log:
+    if unfit(log):
         return "BAD EDIT: the proof file does not fit the code, which shows nothing of the contract", None
     return None, first[1] if first else "no place printed"
 
@@ -122,7 +127,7 @@ def main():
     crates = sys.argv[1:] or sorted(d.name for d in (ROOT / "crates").iterdir() if edits_of(d.name))
     wrong = strays()
     wrong += [f"{log.parent.parent.name}/{log.parent.name}: the proof file does not fit the code"
-              for log in TARGET.glob("must-fail/*/*/.log") if UNFIT in log.read_text()]
+              for log in TARGET.glob("must-fail/*/*/.log") if unfit(log.read_text())]
     for line in wrong:
         print(f"FAIL {line}")
     passed, failed = 0, len(wrong)
