@@ -15,7 +15,7 @@ use Rattle.entries.specs.declared.Site as site
 abbrev pub siteMeant : site.Site → Site
 siteMeant s = record { owner = s .owner .0; volatile = s .volatile; initial = s .initial }
 
--- The site of a location that lives there.
+-- The site of a location by its home.
 unfoldable pub siteAt : Topology → Home → Site
 siteAt sys h =
     record { owner = h .owner; volatile = not (sys .persistent (h .owner)); initial = h .initial }

@@ -9,7 +9,7 @@ use model::Location;
 use model::Topology;
 
 impl Site {
-    // A location that lives there.
+    // A location by its home.
     pub fn at(t: Topology, x: Location, h: Home) -> Site
         ensures { λ r. ⌜ (siteMeant r ≡ siteAt (topologyOf t) (homeOf h)) × (r .location ≡ x) ⌝ }
     {
