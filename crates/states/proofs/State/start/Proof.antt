@@ -4,6 +4,7 @@ use Prim.Native.Nat.{ℕ, zero, suc, _-_}
 use native.Mathlib.Omega.{arith}
 use mathlib.Core.Path.{_≡_, refl, ap, _∙_}
 use borrow.Author.Tests.{le-ltb}
+use borrow.Author.Needs.{needs}
 use lib.ListN.{length, getD, length-set, replicate}
 use Rattle.model.specs.Cxl0.{Home, initial, start}
 use Rattle.model.specs.Meaning.{topologyOf}
@@ -37,21 +38,6 @@ same (suc k) (suc x) e = same k x e
 loop-holds : tie.Need-loop-holds Inv-loop μ-loop
 loop-holds c = (refl, λ y. rw (le-ltb y 0 (omega arith)) (same 32 y emptyEntry))
 
-cast-y : tie.Need-cast-y Inv-loop μ-loop
-cast-y c = omega arith
-
-mul-entries : tie.Need-mul-entries Inv-loop μ-loop
-mul-entries c = omega arith
-
-array-set-from-entries : tie.Need-array-set-from-entries Inv-loop μ-loop
-array-set-from-entries c = omega arith
-
-add-at : tie.Need-add-at Inv-loop μ-loop
-add-at c = omega arith
-
-loop-less : tie.Need-loop-less Inv-loop μ-loop
-loop-less c = omega arith
-
 loop-again : tie.Need-loop-again Inv-loop μ-loop
 unfolding initial
 loop-again c =
@@ -80,12 +66,12 @@ start-spec =
     Inv-loop
     μ-loop
     loop-holds
-    cast-y
+    (λ c. search needs)
     nothing
     nothing
-    mul-entries
-    array-set-from-entries
-    add-at
-    loop-less
+    (λ c. search needs)
+    (λ c. search needs)
+    (λ c. search needs)
+    (λ c. search needs)
     loop-again
     returns)
