@@ -8,7 +8,7 @@ use mathlib.Core.List.{List, [], _∷_, _++_}
 use mathlib.Core.Option.{Option, none}
 use lib.Dec.{T, T-not, eqb, eqb→eq}
 use Rattle.model.specs.Cxl0.{Machine, Location, Value, Topology, isMachine, isLocation, owner}
-use Rattle.model.specs.Cxl0.{WellFormed, State, holds, someMachine, cached, crashes, clears, crashed}
+use Rattle.model.specs.Cxl0.{isPersistent, WellFormed, State, holds, someMachine, cached, crashes, clears, crashed}
 use Rattle.model.specs.Cxl0.{LStore, RStore, MStore, Load, LFlush, RFlush, Crash, SetCrash}
 use Rattle.model.specs.Cxl0.{RMW, Form, L, R, M}
 use Rattle.model.specs.Cxl0.{Propagate, WriteBack, stored}
@@ -97,16 +97,16 @@ crash-cached sys x e s h =
     lose true c t = tt
     lose false c t = t
 
--- And it leaves x in memory alone, also if the owner crashes, whose memory is persistent.
-crash-kept : (sys : Topology) (x : Location) (m : Value) → T (sys .persistent (owner sys x))
+-- And it leaves x in memory alone, also if the owner crashes, where the memory is persistent.
+crash-kept : (sys : Topology) (x : Location) (m : Value) → T (isPersistent sys x)
     → (e : Event) (s : State) → InMemory sys x m s → InMemory sys x m (crashed sys e s)
 unfolding clears
 crash-kept sys x m p e s h =
-    let k = owner sys x in
-    (crash-cached sys x e s (h .0), rw (T→true {b = sys .persistent k} p, and-false (crashes e k)) (h .1))
+    let kept = T→true {b = isPersistent sys x} p in
+    (crash-cached sys x e s (h .0), rw (kept, and-false (crashes e (owner sys x))) (h .1))
 
 -- So does any other event that is no store.
-event-kept : (sys : Topology) (x : Location) (m : Value) → T (sys .persistent (owner sys x))
+event-kept : (sys : Topology) (x : Location) (m : Value) → T (isPersistent sys x)
     → (e : Event) (s : State) → T (eventAt x e) → T (not (isStore e))
     → InMemory sys x m s → InMemory sys x m (next sys (event e) s)
 unfolding next eventAt locationOf isStore
@@ -151,7 +151,7 @@ no-store x e es n = go (eventAt x e && isStore e) (count (λ e. eventAt x e && i
     go true c h = absurd (omega arith)
     go false c h = (tt, h)
 
-module _ (sys : Topology) (w : WellFormed sys) (x : Location) (p : T (sys .persistent (owner sys x))) where
+module _ (sys : Topology) (w : WellFormed sys) (x : Location) (p : T (isPersistent sys x)) where
   event-step : (m : Value) (e : Event) (s : State) → T (not (eventAt x e && isStore e))
       → InMemory sys x m s → InMemory sys x m (next sys (event e) s)
   unfolding concerns

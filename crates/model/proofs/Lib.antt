@@ -22,7 +22,7 @@ pub mod Gaps
 pub mod SomeSilent
 pub mod SideBySide
 pub mod SetCrashes
-pub mod Zeroed
+pub mod Earlier
 pub mod Decision
 pub mod Prefixes
 pub mod NamedEvents

@@ -52,7 +52,7 @@ listed-below t x h =
 
 -- The struct for `nowhere`.
 abbrev pub noHome : home.Home
-noHome = record { owner = record { 0 = 0 }; initial = 0 }
+noHome = record { owner = record { 0 = 0 }; differs = false; initial = 0 }
 
 -- Where a listed location lives stands in the array.
 pub home-at : (t : topology.Topology) (x : Location) → x < t .locations

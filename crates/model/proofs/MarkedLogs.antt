@@ -7,14 +7,14 @@ use mathlib.Core.Bool.{Bool, true, not, _&&_}
 use mathlib.Core.List.{List, [], _∷_, List·Memᴰ, List·Memᴰ·head, List·Memᴰ·tail}
 use lib.Dec.{T, T-not, leb, leb→le}
 use lib.ListN.{length, take}
-use Rattle.model.specs.Cxl0.{Topology, WellFormed, isMachine, isLocation, owner, initial}
+use Rattle.model.specs.Cxl0.{Topology, WellFormed, isMachine, isLocation, owner, initial, keeps, isPersistent}
 use Rattle.model.specs.Cxl0.{Event, crashes, clears, named, allNamed, FirstImpossible}
 use Rattle.model.specs.Sharers.{has, insert, remove, removeAll}
 use Rattle.model.specs.OneLocation.{concerns, eventAt, moved, enabledAt, effect, locationOf, siteOf}
 use Rattle.model.specs.OneLocation.{possibleAt, nextAt, startAt}
 use Rattle.model.specs.Meaning.{ownersFit}
 use Rattle.model.specs.MarkedLogs.{Verdict, MarkedLog, log, three, persistent, volatile}
-use Rattle.model.specs.MarkedLogs.{logs, patternLogs, setCrashLogs}
+use Rattle.model.specs.MarkedLogs.{logs, patternLogs, setCrashLogs, kindLogs}
 use Rattle.model.proofs.Tests.{and-l, and-r}
 use Rattle.model.proofs.Owners.{owners-fit}
 use Rattle.model.proofs.SomeSilent.{someMoved, someSilent}
@@ -62,7 +62,7 @@ all-right : T (allRight logs)
 unfolding
     logs log three persistent volatile
     allRight right ownersFit judged decide everyBelow good someSilent someMoved
-    isMachine isLocation owner initial crashes clears named allNamed has insert remove
+    isMachine isLocation owner initial keeps isPersistent crashes clears named allNamed has insert remove
     concerns eventAt locationOf enabledAt siteOf moved effect possibleAt nextAt startAt
 all-right = tt
 
@@ -70,7 +70,8 @@ all-right-pattern : T (allRight patternLogs)
 unfolding
     patternLogs log three
     allRight right ownersFit judged decide everyBelow good someSilent someMoved
-    isMachine isLocation owner initial crashes clears named allNamed has insert remove removeAll
+    isMachine isLocation owner initial keeps isPersistent crashes clears named allNamed
+    has insert remove removeAll
     concerns eventAt locationOf enabledAt siteOf moved effect possibleAt nextAt startAt
 all-right-pattern = tt
 
@@ -78,9 +79,19 @@ all-right-set : T (allRight setCrashLogs)
 unfolding
     setCrashLogs log three volatile
     allRight right ownersFit judged decide everyBelow good someSilent someMoved
-    isMachine isLocation owner initial crashes clears named allNamed has insert remove removeAll
+    isMachine isLocation owner initial keeps isPersistent crashes clears named allNamed
+    has insert remove removeAll
     concerns eventAt locationOf enabledAt siteOf moved effect possibleAt nextAt startAt
 all-right-set = tt
+
+all-right-kinds : T (allRight kindLogs)
+unfolding
+    kindLogs log three
+    allRight right ownersFit judged decide everyBelow good someSilent someMoved
+    isMachine isLocation owner initial keeps isPersistent crashes clears named allNamed
+    has insert remove removeAll
+    concerns eventAt locationOf enabledAt siteOf moved effect possibleAt nextAt startAt
+all-right-kinds = tt
 
 -- Each log of a list that passes has a well-formed system and its verdict.
 each-right : (ls : List MarkedLog) → T (allRight ls) → (l : MarkedLog) → List·Memᴰ l ls
@@ -104,3 +115,7 @@ pattern-logs = each-right patternLogs all-right-pattern
 pub set-crash-logs : (l : MarkedLog) → List·Memᴰ l setCrashLogs
     → WellFormed (l .system) × Verdict (l .system) (l .events) (l .verdict)
 set-crash-logs = each-right setCrashLogs all-right-set
+
+pub kind-logs : (l : MarkedLog) → List·Memᴰ l kindLogs
+    → WellFormed (l .system) × Verdict (l .system) (l .events) (l .verdict)
+kind-logs = each-right kindLogs all-right-kinds

@@ -7,7 +7,7 @@ use mathlib.Core.Bool.{not, _&&_}
 use mathlib.Core.List.{List, [], _∷_, _++_, append-assoc}
 use lib.Dec.{T, T-not, eqb, eqb-refl}
 use Rattle.model.specs.Cxl0.{Machine, Location, Value, Topology, isMachine, isLocation, owner}
-use Rattle.model.specs.Cxl0.{WellFormed, State, start, initial, cached, crashes, clears}
+use Rattle.model.specs.Cxl0.{keeps, isPersistent, WellFormed, State, start, initial, cached, crashes, clears}
 use Rattle.model.specs.Cxl0.{LStore, MStore, Load, LFlush, RFlush, Crash, RMW, M}
 use Rattle.model.specs.Cxl0.{Event, Action, event, named, allNamed, enabled, possible, next}
 use Rattle.model.specs.Cxl0.{runs, after, Run, events, HasRun}
@@ -26,7 +26,7 @@ use Rattle.model.proofs.Stores.{mstore-uncached}
 use Rattle.model.proofs.InMemory.{reads}
 use Rattle.model.proofs.SideBySide.{has-run-both}
 
-module _ (sys : Topology) (w : WellFormed sys) (x : Location) (p : T (sys .persistent (owner sys x))) where
+module _ (sys : Topology) (w : WellFormed sys) (x : Location) (p : T (isPersistent sys x)) where
   -- From any state in which an RFlush of x is possible, through any crashes, silent steps and other events:
   -- until the next store of x, every load of x returns the value that its memory holds at the flush.
   pub flushed-from : (i j : Machine) (v : Value) (s : State) (between rest : List Action)
@@ -62,7 +62,7 @@ module _ (sys : Topology) (w : WellFormed sys) (x : Location) (p : T (sys .persi
       let value : t .memory x ≡ v = rw (T→true {b = eqb x x} (eqb-refl x)) in
       reads sys w x p v u j between rest t n (mstore-uncached sys x v i (f .at), value) (f .rest)
 
-  -- So it is in every list of events that has a run. (Not with a volatile owner: marked log 12.)
+  -- So it is in every list of events that has a run. (Not in volatile memory: marked log 12.)
   pub mstored : (i j : Machine) (u v : Value) (before between rest : List Event)
       → HasRun sys (before ++ (MStore i x v ∷ between ++ Load j x u ∷ rest)) → NoStore x between → u ≡ v
   unfolding HasRun
@@ -110,6 +110,6 @@ pub figure-5 :
     × ¬ HasRun sys5 (figure5 [] (RFlush 1 L0 ∷ []))
 unfolding
     three persistent decide everyBelow good someSilent someMoved
-    isMachine isLocation owner initial crashes clears named allNamed has insert remove
+    isMachine isLocation owner initial keeps isPersistent crashes clears named allNamed has insert remove
     concerns eventAt locationOf enabledAt siteOf moved effect possibleAt nextAt startAt
 figure-5 = (allowed _ tt, allowed _ tt, allowed _ tt, impossible _ tt, impossible _ tt)

@@ -9,7 +9,7 @@ use mathlib.Core.List.{List, [], _∷_, _++_, map}
 use mathlib.Core.Option.{none}
 use lib.Dec.{T, T-not, leb, ltb, eqb, eqb→eq, eqb-refl, le→leb, ltb→lt, lt→ltb}
 use Rattle.model.specs.Cxl0.{Machine, Location, MachineSet, Topology, State, isMachine, start}
-use Rattle.model.specs.Cxl0.{everyMachine, holds, cached, crashes, clears, crashed, owner, initial}
+use Rattle.model.specs.Cxl0.{everyMachine, holds, cached, crashes, clears, crashed, owner, initial, isPersistent}
 use Rattle.model.specs.Cxl0.{Event, Crash, SetCrash, Action, event, named, enabled, possible, next}
 use Rattle.model.specs.Cxl0.{allNamed, runs, after, events, Run, HasRun}
 use Rattle.model.specs.Sharers.{has}
@@ -99,13 +99,13 @@ module _ (sys : Topology) where
 
   row-memory : (is : List Machine) (s : State) (y : Location)
       → after sys (row is) s .memory y
-      ≡ cond (isIn (owner sys y) is && not (sys .persistent (owner sys y))) (initial sys y) (s .memory y)
+      ≡ cond (isIn (owner sys y) is && not (isPersistent sys y)) (initial sys y) (s .memory y)
   unfolding after next crashes clears isIn crashRow
   row-memory [] s y = refl
   row-memory (i ∷ is) s y =
       let k = owner sys y in
       row-memory is (crashed sys (Crash i) s) y
-      ∙ cleared-twice (eqb k i) (isIn k is) (not (sys .persistent k)) (initial sys y) (s .memory y)
+      ∙ cleared-twice (eqb k i) (isIn k is) (not (isPersistent sys y)) (initial sys y) (s .memory y)
 
   -- ---- what a row names
 
@@ -145,9 +145,9 @@ module _ (sys : Topology) where
         → cond (has j set) none (s .cache j y) ≡ after sys (row is) s .cache j y
         = λ j y. ap (λ b. cond b none (s .cache j y)) (lists j) ∙ sym (row-cache is s j y) in
         let memories : (y : Location)
-        → cond (has (k y) set && not (sys .persistent (k y))) (initial sys y) (s .memory y)
+        → cond (has (k y) set && not (isPersistent sys y)) (initial sys y) (s .memory y)
         ≡ after sys (row is) s .memory y
-        = λ y. ap (λ b. cond (b && not (sys .persistent (k y))) (initial sys y) (s .memory y)) (lists (k y))
+        = λ y. ap (λ b. cond (b && not (isPersistent sys y)) (initial sys y) (s .memory y)) (lists (k y))
         ∙ sym (row-memory is s y) in
         λ t. record { cache = λ j y. caches j y t; memory = λ y. memories y t }
 

@@ -7,7 +7,8 @@ use Rattle.model.specs.Cxl0.{isMachine, isLocation, owner, initial, star
 use Rattle.model.specs.Cxl0.{LStore, MStore, Load, LFlush, Crash, SetCrash, RMW, L, R, M}
 use Rattle.model.specs.Cxl0.{Propagate, WriteBack}
 use Rattle.model.specs.Sharers.{has}
-use Rattle.model.specs.Cxl0.{Topology, Action, event, silent, crashes, clears, named, enabled, next}
+use Rattle.model.specs.Cxl0.{Topology, keeps, isPersistent}
+use Rattle.model.specs.Cxl0.{Action, event, silent, crashes, clears, named, enabled, next}
 use Rattle.model.specs.Cxl0.{possible, runs}
 use Rattle.model.specs.MarkedLogs.{filled, three, persistent, volatile, L0}
 
@@ -84,6 +85,6 @@ told (c ∷ cs) = as-said (c .is-run) (runs (c .system) (c .actions) (start (c .
 -- The model tells each of the shortcuts from itself.
 pub shortcuts-told : T (told cases)
 unfolding
-    told as-said cases case three persistent volatile isMachine isLocation owner initial start someMachine
-    everyMachine cached crashes clears named enabled next possible runs has
+    told as-said cases case three persistent volatile isMachine isLocation owner initial keeps isPersistent
+    start someMachine everyMachine cached crashes clears named enabled next possible runs has
 shortcuts-told = tt

@@ -1,14 +1,14 @@
 -- The theorems of CXL0, over the definitions of `Cxl0` and `Schedule`, each proved by citing the file that does the
 -- work. `WellFormed sys` says that each location's owner is a machine of the system.
 use Prim.Native.Nat.{ℕ, _+_, _*_, _≤_}
-use mathlib.Core.Path.{_≡_}
+use mathlib.Core.Path.{_≡_, refl}
 use mathlib.Core.Logic.{_≢_, _⊎_, _↔_}
 use mathlib.Core.Bool.{not}
 use mathlib.Core.List.{List, _∷_, _++_, List·Memᴰ, map}
 use mathlib.Core.Option.{some}
 use lib.Dec.{T}
 use lib.ListN.{length, take}
-use Rattle.model.specs.Cxl0.{Machine, Location, Value, MachineSet, Topology, WellFormed, isLocation, owner}
+use Rattle.model.specs.Cxl0.{Machine, Location, Value, MachineSet, Topology, WellFormed, isLocation, owner, initial}
 use Rattle.model.specs.Cxl0.{State, start, everyMachine, cached, Form, Load, RMW, SetCrash, Event, Action, event}
 use Rattle.model.specs.Cxl0.{next, named, allNamed, Run, HasRun, FirstImpossible}
 use Rattle.model.specs.Cxl0.{after, events, silents, count, isStore, isLoad}
@@ -16,9 +16,9 @@ use Rattle.model.specs.Schedule.{Step, weave, schedule, inOrder}
 use Rattle.model.specs.OneLocation.{Local, startAt, runsAt, HasRunAt, Moves, Silently}
 use Rattle.model.specs.Sharers.{has}
 use Rattle.model.specs.Goes.{storeOf, Lists, crashRow}
-use Rattle.model.specs.Zeroed as zeroed
-use Rattle.model.specs.Zeroed.{WakesAsZero}
-use Rattle.model.specs.MarkedLogs.{MarkedLog, Verdict, logs, patternLogs, setCrashLogs}
+use Rattle.model.specs.Earlier as earlier
+use Rattle.model.specs.Earlier.{OwnersKinds, WakesAsZero, zeros}
+use Rattle.model.specs.MarkedLogs.{MarkedLog, Verdict, logs, patternLogs, setCrashLogs, kindLogs}
 use Rattle.model.proofs.CopiesAgree
 use Rattle.model.proofs.Bound
 use Rattle.model.proofs.Split
@@ -29,7 +29,7 @@ use Rattle.model.proofs.Weaving
 use Rattle.model.proofs.ReadModifyWrites
 use Rattle.model.proofs.SideBySide
 use Rattle.model.proofs.SetCrashes
-use Rattle.model.proofs.Zeroed
+use Rattle.model.proofs.Earlier
 use Rattle.model.proofs.MarkedLogs as marked
 
 -- 1. Copies of one location always agree in value, in every state that a run reaches.
@@ -141,25 +141,50 @@ pub set-crash-all : (sys : Topology) (set : MachineSet) → T (everyMachine (sys
     → (s : State) (x : Location) → T (not (cached sys (next sys (event (SetCrash set)) s) x))
 set-crash-all = SetCrashes.all-empty
 
--- 9. A system that wakes up as zero is the one of document 01 (`Zeroed`): it starts in the same state, every action
--- leaves the same state, the same lists are runs, and the same events have a run or a first impossible one.
-pub zero-start : (sys : Topology) → WakesAsZero sys → start sys ≡ zeroed.start
-zero-start = Zeroed.same-start
+-- 9. A system in which every location is of its owner's kind is the one of before W-206 (`Earlier`): it starts in the
+-- same state, every action leaves the same state, the same lists are runs, and the same events have a run or a first
+-- impossible one.
+pub kinds-start : (sys : Topology) → OwnersKinds sys → start sys ≡ earlier.start (initial sys)
+kinds-start sys kinds = Earlier.same-start sys (initial sys) kinds (λ x. refl)
 
-pub zero-next : (sys : Topology) → WakesAsZero sys → (a : Action) (s : State) → next sys a s ≡ zeroed.next sys a s
-zero-next = Zeroed.same-next
+pub kinds-next : (sys : Topology) → OwnersKinds sys → (a : Action) (s : State)
+    → next sys a s ≡ earlier.next sys (initial sys) a s
+kinds-next sys kinds = Earlier.same-next sys (initial sys) kinds (λ x. refl)
 
-pub zero-run : (sys : Topology) → WakesAsZero sys → (acts : List Action) → Run sys acts ↔ zeroed.Run sys acts
-zero-run = Zeroed.same-run
+pub kinds-run : (sys : Topology) → OwnersKinds sys → (acts : List Action)
+    → Run sys acts ↔ earlier.Run sys (initial sys) acts
+kinds-run sys kinds = Earlier.same-run sys (initial sys) kinds (λ x. refl)
 
-pub zero-has-run : (sys : Topology) → WakesAsZero sys → (es : List Event) → HasRun sys es ↔ zeroed.HasRun sys es
-zero-has-run = Zeroed.same-has-run
+pub kinds-has-run : (sys : Topology) → OwnersKinds sys → (es : List Event)
+    → HasRun sys es ↔ earlier.HasRun sys (initial sys) es
+kinds-has-run sys kinds = Earlier.same-has-run sys (initial sys) kinds (λ x. refl)
 
-pub zero-first-impossible : (sys : Topology) → WakesAsZero sys → (es : List Event) (e : ℕ)
-    → FirstImpossible sys es e ↔ zeroed.FirstImpossible sys es e
-zero-first-impossible = Zeroed.same-first-impossible
+pub kinds-first-impossible : (sys : Topology) → OwnersKinds sys → (es : List Event) (e : ℕ)
+    → FirstImpossible sys es e ↔ earlier.FirstImpossible sys (initial sys) es e
+kinds-first-impossible sys kinds = Earlier.same-first-impossible sys (initial sys) kinds (λ x. refl)
 
--- The fourteen marked logs have the verdicts that document 01 gives them, and those of requests W-202 and W-203 theirs.
+-- If it wakes up as zero too, it is the one of document 01.
+pub zero-start : (sys : Topology) → OwnersKinds sys → WakesAsZero sys → start sys ≡ earlier.start zeros
+zero-start sys = Earlier.same-start sys zeros
+
+pub zero-next : (sys : Topology) → OwnersKinds sys → WakesAsZero sys → (a : Action) (s : State)
+    → next sys a s ≡ earlier.next sys zeros a s
+zero-next sys = Earlier.same-next sys zeros
+
+pub zero-run : (sys : Topology) → OwnersKinds sys → WakesAsZero sys → (acts : List Action)
+    → Run sys acts ↔ earlier.Run sys zeros acts
+zero-run sys = Earlier.same-run sys zeros
+
+pub zero-has-run : (sys : Topology) → OwnersKinds sys → WakesAsZero sys → (es : List Event)
+    → HasRun sys es ↔ earlier.HasRun sys zeros es
+zero-has-run sys = Earlier.same-has-run sys zeros
+
+pub zero-first-impossible : (sys : Topology) → OwnersKinds sys → WakesAsZero sys → (es : List Event) (e : ℕ)
+    → FirstImpossible sys es e ↔ earlier.FirstImpossible sys zeros es e
+zero-first-impossible sys = Earlier.same-first-impossible sys zeros
+
+-- The fourteen marked logs have the verdicts that document 01 gives them, and those of requests W-202, W-203 and W-206
+-- theirs.
 pub marked-logs : (l : MarkedLog) → List·Memᴰ l logs
     → WellFormed (l .system) × Verdict (l .system) (l .events) (l .verdict)
 marked-logs = marked.marked-logs
@@ -171,3 +196,7 @@ pattern-logs = marked.pattern-logs
 pub set-crash-logs : (l : MarkedLog) → List·Memᴰ l setCrashLogs
     → WellFormed (l .system) × Verdict (l .system) (l .events) (l .verdict)
 set-crash-logs = marked.set-crash-logs
+
+pub kind-logs : (l : MarkedLog) → List·Memᴰ l kindLogs
+    → WellFormed (l .system) × Verdict (l .system) (l .events) (l .verdict)
+kind-logs = marked.kind-logs

@@ -1,6 +1,7 @@
 -- CXL0: what a system of machines that share memory over Compute Express Link may do, in the words of document 01,
--- "The model" (from source 000, section 3.3), with the read-modify-writes of request W-201, the initial values of W-202
--- and the set crashes of W-203. Malluvom's promises are stated over this page and `Schedule`.
+-- "The model" (from source 000, section 3.3), with the read-modify-writes of request W-201, the initial values of
+-- W-202, the set crashes of W-203 and the two kinds of memory of W-206. Malluvom's promises are stated over this page
+-- and `Schedule`.
 -- A test is a Bool; each event and each silent step has one clause in `enabled` and one in `next`.
 use Prim.Native.Nat.{ℕ, zero, suc, _^_, _≤_, _<_}
 use mathlib.Core.Path.{_≡_}
@@ -27,17 +28,19 @@ Value = ℕ
 abbrev pub MachineSet : Type 0
 MachineSet = ℕ
 
--- Where a location lives: in the memory of the machine that owns it, which holds this value for it at power-on.
+-- Where a location lives: the machine that owns it, whether its memory there differs in kind, volatile or persistent,
+-- from its owner's, and the value that this memory holds at power-on.
 pub record Home : Type 0 where
   pub owner : Machine
+  pub differs : Bool
   pub initial : Value
 
 -- Where a location lives that is not listed: at no machine, which 0 stands for, and with 0 in memory.
 abbrev pub nowhere : Home
-nowhere = record { owner = 0; initial = 0 }
+nowhere = record { owner = 0; differs = false; initial = 0 }
 
 -- The fixed part of a system (document 01: shelf): the number of machines, which of them have persistent memory (the
--- others' is volatile), and the locations in the order of their numbers.
+-- others' is volatile, and a part may differ), and the locations in the order of their numbers.
 pub record Topology : Type 0 where
   pub machines : ℕ
   pub persistent : Machine → Bool
@@ -60,6 +63,14 @@ WellFormed sys = (x : Location) → T (isLocation sys x) → T (isMachine sys (o
 -- The value that a location's memory holds at the start, and again after a crash that clears it.
 unfoldable pub initial : Topology → Location → Value
 initial sys x = getD (sys .homes) x nowhere .initial
+
+-- The memory at a home is persistent, where that of these machines is: by its owner's kind, or by the other one.
+unfoldable pub keeps : (Machine → Bool) → Home → Bool
+keeps persistent h = cond (h .differs) (not (persistent (h .owner))) (persistent (h .owner))
+
+-- The memory of a location is persistent.
+unfoldable pub isPersistent : Topology → Location → Bool
+isPersistent sys x = keeps (sys .persistent) (getD (sys .homes) x nowhere)
 
 -- ---- the state
 
@@ -130,9 +141,9 @@ crashes (Crash i) j = eqb j i
 crashes (SetCrash set) j = has j set
 crashes (RMW form i x v w) j = false
 
--- The memory of a location is lost in a crash of its owner, if the owner's memory is volatile.
+-- The memory of a location is lost in a crash of its owner, if it is volatile.
 unfoldable pub clears : Topology → Event → Location → Bool
-clears sys e x = crashes e (owner sys x) && not (sys .persistent (owner sys x))
+clears sys e x = crashes e (owner sys x) && not (isPersistent sys x)
 
 -- An action names machines and locations of the system.
 unfoldable pub named : Topology → Action → Bool
@@ -199,7 +210,7 @@ abbrev pub loaded : Topology → Machine → Location → Value → State → St
 loaded sys i x v s = cond (cached sys s x) (record { cache = also i x (some v) s; memory = s .memory }) s
 
 -- The state after a crash, of one machine or of several in one step: the cache of each machine that crashes is emptied;
--- where its memory is volatile, the locations that it owns return to their initial value.
+-- the locations that it owns in volatile memory return to their initial value.
 abbrev pub crashed : Topology → Event → State → State
 crashed sys e s =
     record {

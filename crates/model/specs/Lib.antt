@@ -4,7 +4,7 @@ pub mod Operations
 pub mod Sharers
 pub mod OneLocation
 pub mod Goes
-pub mod Zeroed
+pub mod Earlier
 pub mod Sums
 pub mod Allowance
 pub mod Words

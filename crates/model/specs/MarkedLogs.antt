@@ -1,8 +1,8 @@
--- The marked logs of document 01, and those of requests W-202 and W-203: for each, its system, its events, and the
--- verdict that it must have.
+-- The marked logs of document 01, and those of requests W-202, W-203 and W-206: for each, its system, its events, and
+-- the verdict that it must have.
 use Prim.Native.Nat.{ℕ, zero, suc}
 use mathlib.Core.Bool.{Bool, true, false}
-use mathlib.Core.List.{List, [], _∷_, map}
+use mathlib.Core.List.{List, [], _∷_, _++_, map}
 use Rattle.model.specs.Cxl0.{Machine, Location, Value, Home, Topology, HasRun, FirstImpossible}
 use Rattle.model.specs.Cxl0.{Event, LStore, RStore, MStore, Load, LFlush, RFlush, Crash, SetCrash}
 
@@ -19,9 +19,12 @@ pub record MarkedLog : Type 0 where
 unfoldable pub log : Topology → List Event → ℕ → MarkedLog
 log sys es e = record { system = sys; events = es; verdict = e }
 
--- A location of machine k whose memory holds v at power-on.
+-- A location of machine k whose memory holds v at power-on: of k's kind, or of the other one.
 abbrev pub filled : Machine → Value → Home
-filled k v = record { owner = k; initial = v }
+filled k v = record { owner = k; differs = false; initial = v }
+
+abbrev pub filledOther : Machine → Value → Home
+filledOther k v = record { owner = k; differs = true; initial = v }
 
 -- Three machines, whose memories are all persistent or all volatile, and L0, L1 and so on.
 unfoldable pub three : Bool → List Home → Topology
@@ -101,3 +104,23 @@ setCrashLogs =
     log (volatile (1 ∷ [])) (LStore 2 L0 5 ∷ Crash 1 ∷ Crash 2 ∷ Load 2 L0 5 ∷ []) 0
     ∷ log (volatile (1 ∷ [])) (LStore 2 L0 5 ∷ SetCrash 3 ∷ Load 2 L0 5 ∷ []) 3
     ∷ []
+
+-- The logs of request W-206: machine 2 has a journal, L0, in persistent memory and an index, L1, in volatile memory,
+-- which wakes up as 7.
+abbrev pub journalLogs : Topology → List MarkedLog
+journalLogs sys =
+    -- What the journal confirmed is there after a crash, and what the index held is not: allowed; impossible, 4, and 5
+    log sys (MStore 1 L0 1 ∷ MStore 1 L1 1 ∷ Crash 2 ∷ Load 1 L0 1 ∷ Load 1 L1 7 ∷ []) 0
+    ∷ log sys (MStore 1 L0 1 ∷ MStore 1 L1 1 ∷ Crash 2 ∷ Load 1 L0 0 ∷ []) 4
+    ∷ log sys (MStore 1 L0 1 ∷ MStore 1 L1 1 ∷ Crash 2 ∷ Load 1 L0 1 ∷ Load 1 L1 1 ∷ []) 5
+    -- The same with a set crash of 1 and 2
+    ∷ log sys (MStore 1 L0 1 ∷ MStore 1 L1 1 ∷ SetCrash 3 ∷ Load 1 L0 1 ∷ Load 1 L1 7 ∷ []) 0
+    ∷ log sys (MStore 1 L0 1 ∷ MStore 1 L1 1 ∷ SetCrash 3 ∷ Load 1 L0 0 ∷ []) 4
+    ∷ log sys (MStore 1 L0 1 ∷ MStore 1 L1 1 ∷ SetCrash 3 ∷ Load 1 L0 1 ∷ Load 1 L1 1 ∷ []) 5
+    ∷ []
+
+-- The machines' memory is persistent and the index in the other part, or it is volatile and the journal there.
+unfoldable pub kindLogs : List MarkedLog
+kindLogs =
+    journalLogs (three true (filled 2 0 ∷ filledOther 2 7 ∷ []))
+    ++ journalLogs (three false (filledOther 2 0 ∷ filled 2 7 ∷ []))

@@ -13,7 +13,7 @@ use Rattle.model.specs.declared.Home as home
 use Rattle.model.specs.declared.Topology as topology
 
 abbrev pub homeOf : home.Home → Home
-homeOf h = record { owner = h .owner .0; initial = h .initial }
+homeOf h = record { owner = h .owner .0; differs = h .differs; initial = h .initial }
 
 unfoldable pub topologyOf : topology.Topology → Topology
 topologyOf t =

@@ -7,7 +7,8 @@ use mathlib.Core.Bool.{Bool, true, false, cond, not, _&&_}
 use mathlib.Core.List.{List, [], _∷_}
 use mathlib.Core.Option.{Option, none, some}
 use lib.Dec.{T, eqb}
-use Rattle.model.specs.Cxl0.{Machine, Location, Value, Topology, owner, initial, State, crashes, events}
+use Rattle.model.specs.Cxl0.{Machine, Location, Value, Topology, owner, initial, isPersistent}
+use Rattle.model.specs.Cxl0.{State, crashes, events}
 use Rattle.model.specs.Cxl0.{Event, LStore, RStore, MStore, Load, LFlush, RFlush, Crash, SetCrash}
 use Rattle.model.specs.Cxl0.{RMW, Form, L, R, M}
 use Rattle.model.specs.Cxl0.{Silent, Propagate, WriteBack, Action, event, silent}
@@ -82,9 +83,9 @@ pub record Site : Type 0 where
 
 unfoldable pub siteOf : Topology → Location → Site
 siteOf sys x =
-    record { owner = owner sys x; volatile = not (sys .persistent (owner sys x)); initial = initial sys x }
+    record { owner = owner sys x; volatile = not (isPersistent sys x); initial = initial sys x }
 
--- An event clears the memory of the site: it crashes the owner, whose memory is volatile.
+-- An event clears the memory of the site: it crashes the owner, and the memory is volatile.
 abbrev pub clearsSite : Event → Site → Bool
 clearsSite e k = crashes e (k .owner) && k .volatile
 

@@ -1,6 +1,7 @@
 // CXL0: what a system of machines that share memory may do, and the fixed part of such a system. The
 // definitions are those of specs/Cxl0.antt; the contracts are equations with them.
 pub mod codes;
+mod homes;
 mod topologies;
 
 // The most machines and locations that a system has.
@@ -14,15 +15,18 @@ pub struct Machine(pub u8);
 // A location, numbered from 0.
 pub struct Location(pub u8);
 
-// Where a location lives, and the value that its memory holds at the start and after a crash that clears it.
+// Where a location lives: its owner, whether its memory differs in kind from its owner's, and the value that it holds
+// at the start and after a crash that clears it.
 pub struct Home {
     pub owner: Machine,
+    pub differs: bool,
     pub initial: u32,
 }
 
 // Where a location lives that is not listed: at no machine.
 pub const NOWHERE: Home = Home {
     owner: Machine(0),
+    differs: false,
     initial: 0,
 };
 

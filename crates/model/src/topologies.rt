@@ -12,7 +12,6 @@ use super::MACHINES;
 use super::Machine;
 use super::NOWHERE;
 use super::Topology;
-use super::codes::bit;
 use super::codes::none_above;
 
 impl Topology {
@@ -67,7 +66,7 @@ impl Topology {
         (at < count) & (at < LOCATIONS)
     }
 
-    // Where a location lives, and the value that its memory holds at the start and after a crash that clears it.
+    // Where a location lives.
     pub fn home(self, x: Location) -> Home
         ensures { λ r. ⌜ homeOf r ≡ getD (topologyOf self .homes) (x .0) nowhere ⌝ }
     {
@@ -78,14 +77,6 @@ impl Topology {
         } else {
             NOWHERE
         }
-    }
-
-    // Machine i's memory is persistent.
-    pub fn is_persistent(self, i: Machine) -> bool
-        ensures { λ r. ⌜ r ≡ topologyOf self .persistent (i .0) ⌝ }
-    {
-        let persistent = self.persistent;
-        persistent & bit(i) != 0
     }
 
     // Within the limits, with this machine and this location.
