@@ -2,7 +2,7 @@
 use Prim.Native.Nat.{ℕ, _%_, _^_}
 use mathlib.Core.Bool.{false, cond, not}
 use Rattle.model.specs.Cxl0
-use Rattle.model.specs.Cxl0.{Value, Home, nowhere, Topology, Action}
+use Rattle.model.specs.Cxl0.{Value, Home, nowhere, keeps, Topology, Action}
 use Rattle.model.specs.OneLocation.{Local, Site, enabledAt, effect}
 use Rattle.model.specs.Operations.{isOperation}
 use Rattle.model.specs.Meaning.{meant}
@@ -18,7 +18,7 @@ siteMeant s = record { owner = s .owner .0; volatile = s .volatile; initial = s 
 -- The site of a location by its home.
 unfoldable pub siteAt : Topology → Home → Site
 siteAt sys h =
-    record { owner = h .owner; volatile = not (sys .persistent (h .owner)); initial = h .initial }
+    record { owner = h .owner; volatile = not (keeps (sys .persistent) h); initial = h .initial }
 
 -- The short form that an entry stands for.
 unfoldable pub shortOf : entry.Entry → Local

@@ -17,7 +17,7 @@ impl Site {
         Site {
             location: x,
             owner,
-            volatile: !t.is_persistent(owner),
+            volatile: !h.keeps(t.persistent),
             initial: h.initial,
         }
     }
