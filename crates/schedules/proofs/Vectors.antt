@@ -10,7 +10,7 @@ use Rattle.verdict_file.proofs.Vectors.{steps, bytes}
 use Rattle.schedules.specs.Schedules.{starts, begins, readSteps, saysAllowed, readAllowed, readSchedule}
 
 case4 : Topology
-case4 = record { machines = 2; persistent = λ i. true; homes = record { owner = 2; initial = 0 } ∷ [] }
+case4 = record { machines = 2; persistent = λ i. true; homes = record { owner = 2; differs = false; initial = 0 } ∷ [] }
 
 read : readSchedule case4 4 bytes ≡ some steps
 unfolding case4 steps bytes starts begins readSteps saysAllowed readAllowed isLocation owner inOrder

@@ -169,7 +169,7 @@ module _ {t : topology.Topology} {n x : ℕ} {p : Progress} {w : List ℕ} (can 
         record {
           location = record { 0 = x };
           owner = record { 0 = owner sys x };
-          volatile = not (sys .persistent (owner sys x));
+          volatile = not (isPersistent sys x);
           initial = initial sys x;
         }
 
