@@ -2,5 +2,5 @@ pub mod Readings
 pub mod Recordings
 pub mod Verdicts
 pub mod Judgements
-pub mod ShortRows
+pub mod Earlier
 pub mod Promises

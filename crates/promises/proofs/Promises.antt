@@ -4,24 +4,26 @@
 -- published one is shown beside it: the eight facts of source 000's Proposition 1 in model's `Proposition1`, and what
 -- flushes and MStores make sure of in `Persistence`.
 use Prim.Native.Nat.{ℕ, _+_, _*_, _-_, _≤_, _<_}
-use mathlib.Core.Path.{_≡_, _∙_}
+use mathlib.Core.Path.{_≡_, refl, _∙_}
 use mathlib.Core.Logic.{_↔_}
 use mathlib.Core.Bool.{true, false}
 use mathlib.Core.List.{List, List·Memᴰ, _++_}
 use mathlib.Core.Option.{some}
 use lib.Dec.{T}
 use lib.ListN.{length, take, drop}
-use Rattle.model.specs.Cxl0.{Machine, Location, Value, Topology, WellFormed, start, Event, Action, after, Run, HasRun}
-use Rattle.model.specs.Cxl0.{events, silents, count, isStore, isLoad}
-use Rattle.model.specs.Zeroed as zeroed
+use Rattle.model.specs.Cxl0.{Machine, Location, Value, Topology, WellFormed, initial, start, Event, Action}
+use Rattle.model.specs.Cxl0.{after, Run, HasRun, events, silents, count, isStore, isLoad}
+use Rattle.model.specs.Earlier as earlier
+use Rattle.model.specs.Earlier.{zeros}
 use Rattle.model.specs.Schedule.{Step, weave, schedule, inOrder}
 use Rattle.model.specs.MarkedLogs.{MarkedLog, logs}
 use Rattle.model.specs.MarkedLogs as marked
 use Rattle.model.proofs.Theorems
 use Rattle.log.specs.Records.{Records, systemOf, WithinLimits}
-use Rattle.log.specs.Bytes.{Bytes, field, encode, ShortRows}
+use Rattle.log.specs.Bytes.{Bytes, field, encode, ShortRows, NoKindBytes}
 use Rattle.log.specs.Reading.{Given, Outcome, nothing, admit, readFields, accepted, rejected, readLog}
 use Rattle.log.proofs.OneForm
+use Rattle.log.proofs.ShortRows.{short-rows-zero, short-rows-kinds, no-kind-bytes-kinds}
 use Rattle.reader.specs.Answers as read
 use Rattle.reader.specs.declared.Reading.{Reading}
 use Rattle.recorder.specs.Recording as recording
@@ -40,7 +42,7 @@ use Rattle.judge.specs.declared.Judged.{Judged}
 use Rattle.promises.proofs.Readings
 use Rattle.promises.proofs.Recordings
 use Rattle.promises.proofs.Judgements
-use Rattle.promises.proofs.ShortRows as short-rows
+use Rattle.promises.proofs.Earlier
 
 -- ==== Demand 1: what is refused, and what is accepted
 
@@ -168,11 +170,20 @@ module _ (s f : List ℕ) (a : Replayed) (replayed : replay.answerOf a ≡ repla
       ↔ ((r : Records) × (ps : List Step) × Admitted s f r ps × Run (systemOf r) (weave (r .events) ps))
   replay-yes = rw replayed (Demand2.yes-exactly s f)
 
+  -- Where no row of a location has a kind byte, these are the runs of before W-206: a crash asks each owner for its kind.
+  pub replay-yes-no-kinds : (r : Records) → readLog s ≡ accepted r → NoKindBytes r
+      → (replay.answerOf a ≡ replaying.Answer.yes)
+      ↔ ((ps : List Step) × Admitted s f r ps
+      × earlier.Run (systemOf r) (initial (systemOf r)) (weave (r .events) ps))
+  replay-yes-no-kinds r read none =
+      Earlier.admitted-run r (initial (systemOf r)) (no-kind-bytes-kinds r none) (λ x. refl) s f read replay-yes
+
   -- Where every row of a location has length 1, these are the runs of document 01, from zeroed memories.
   pub replay-yes-short : (r : Records) → readLog s ≡ accepted r → ShortRows r
       → (replay.answerOf a ≡ replaying.Answer.yes)
-      ↔ ((ps : List Step) × Admitted s f r ps × zeroed.Run (systemOf r) (weave (r .events) ps))
-  replay-yes-short r read short = short-rows.admitted-run r short s f read replay-yes
+      ↔ ((ps : List Step) × Admitted s f r ps × earlier.Run (systemOf r) zeros (weave (r .events) ps))
+  replay-yes-short r read short =
+      Earlier.admitted-run r zeros (short-rows-kinds r short) (short-rows-zero r short) s f read replay-yes
 
   -- No and k exactly when they are admitted and k events pass before the first thing not possible.
   pub replay-no : (k : ℕ)
@@ -207,17 +218,35 @@ module _ (s out : List ℕ) (offset : ℕ) (scratch : List ℕ) (j : Judged) (ou
       ↔ (¬ HasRun (systemOf r) (take e (r .events)) × HasRun (systemOf r) (take (e - 1) (r .events)))
   impossible-exactly = Judgements.impossible-exactly s out offset scratch j out' scratch' judged fit r read
 
-  -- A log in which every row of a location has length 1 keeps its verdict: it is that of document 01, whose memories
-  -- start as zero.
-  pub allowed-exactly-short : ShortRows r
-      → ((steps len : ℕ) × (answerOf j ≡ gives 1 0 steps len)) ↔ zeroed.HasRun (systemOf r) (r .events)
-  allowed-exactly-short short = short-rows.has-run r short (r .events) allowed-exactly
+  -- A log without kind bytes is judged as it was before W-206: a crash asks each owner for its kind.
+  module _ (none : NoKindBytes r) where
+    pub allowed-exactly-no-kinds : ((steps len : ℕ) × (answerOf j ≡ gives 1 0 steps len))
+        ↔ earlier.HasRun (systemOf r) (initial (systemOf r)) (r .events)
+    allowed-exactly-no-kinds =
+        Earlier.has-run r (initial (systemOf r)) (no-kind-bytes-kinds r none) (λ x. refl) (r .events) allowed-exactly
 
-  pub impossible-exactly-short : ShortRows r → (e : ℕ)
-      → ((len : ℕ) × (answerOf j ≡ gives 0 e 0 len))
-      ↔ (¬ zeroed.HasRun (systemOf r) (take e (r .events)) × zeroed.HasRun (systemOf r) (take (e - 1) (r .events)))
-  impossible-exactly-short short e =
-      short-rows.no-run r short (take e (r .events)) (take (e - 1) (r .events)) (impossible-exactly e)
+    pub impossible-exactly-no-kinds : (e : ℕ)
+        → ((len : ℕ) × (answerOf j ≡ gives 0 e 0 len))
+        ↔ (¬ earlier.HasRun (systemOf r) (initial (systemOf r)) (take e (r .events))
+        × earlier.HasRun (systemOf r) (initial (systemOf r)) (take (e - 1) (r .events)))
+    impossible-exactly-no-kinds e =
+        Earlier.no-run r (initial (systemOf r)) (no-kind-bytes-kinds r none) (λ x. refl)
+        (take e (r .events)) (take (e - 1) (r .events)) (impossible-exactly e)
+
+  -- One in which every row of a location has length 1 is judged as document 01 has it, whose memories start as zero.
+  module _ (short : ShortRows r) where
+    pub allowed-exactly-short : ((steps len : ℕ) × (answerOf j ≡ gives 1 0 steps len))
+        ↔ earlier.HasRun (systemOf r) zeros (r .events)
+    allowed-exactly-short =
+        Earlier.has-run r zeros (short-rows-kinds r short) (short-rows-zero r short) (r .events) allowed-exactly
+
+    pub impossible-exactly-short : (e : ℕ)
+        → ((len : ℕ) × (answerOf j ≡ gives 0 e 0 len))
+        ↔ (¬ earlier.HasRun (systemOf r) zeros (take e (r .events))
+        × earlier.HasRun (systemOf r) zeros (take (e - 1) (r .events)))
+    impossible-exactly-short e =
+        Earlier.no-run r zeros (short-rows-kinds r short) (short-rows-zero r short)
+        (take e (r .events)) (take (e - 1) (r .events)) (impossible-exactly e)
 
   -- The file of an allowed verdict gets yes from replay with that log.
   pub allowed-replays : (steps len : ℕ) → answerOf j ≡ gives 1 0 steps len

@@ -9,7 +9,7 @@ use mathlib.Core.List.{List, [], _++_, map, map-append, append-nil, List·Memᴰ
 use lib.Dec.{T}
 use lib.ListN.{length, getD, take, drop, length-take, length-append, length-map}
 use lib.Seq.{take-all, take-take}
-use Rattle.model.specs.Cxl0.{Location, Topology, owner, initial, WellFormed, Event, event, allNamed}
+use Rattle.model.specs.Cxl0.{Location, Topology, owner, initial, isPersistent, WellFormed, Event, event, allNamed}
 use Rattle.model.specs.Schedule.{Step, weave, weaveFrom, steps, inOrder}
 use Rattle.model.specs.OneLocation.{siteOf, startAt, HasRunAt, runsAt}
 use Rattle.model.specs.Meaning.{topologyOf}
