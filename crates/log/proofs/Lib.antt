@@ -6,6 +6,7 @@ pub mod Checks
 pub mod Tags
 pub mod Each
 pub mod Elements
+pub mod Sizes
 pub mod Payloads
 pub mod Encoded
 pub mod Growing
