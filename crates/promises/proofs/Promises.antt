@@ -14,7 +14,6 @@ use lib.ListN.{length, take, drop}
 use Rattle.model.specs.Cxl0.{Machine, Location, Value, Topology, WellFormed, initial, start, Event, Action}
 use Rattle.model.specs.Cxl0.{after, Run, HasRun, events, silents, count, isStore, isLoad}
 use Rattle.model.specs.Earlier as earlier
-use Rattle.model.specs.Earlier.{zeros}
 use Rattle.model.specs.Schedule.{Step, weave, schedule, inOrder}
 use Rattle.model.specs.MarkedLogs.{MarkedLog, logs}
 use Rattle.model.specs.MarkedLogs as marked
@@ -181,9 +180,9 @@ module _ (s f : List ℕ) (a : Replayed) (replayed : replay.answerOf a ≡ repla
   -- Where every row of a location has length 1, these are the runs of document 01, from zeroed memories.
   pub replay-yes-short : (r : Records) → readLog s ≡ accepted r → ShortRows r
       → (replay.answerOf a ≡ replaying.Answer.yes)
-      ↔ ((ps : List Step) × Admitted s f r ps × earlier.Run (systemOf r) zeros (weave (r .events) ps))
+      ↔ ((ps : List Step) × Admitted s f r ps × earlier.Run (systemOf r) earlier.zeros (weave (r .events) ps))
   replay-yes-short r read short =
-      Earlier.admitted-run r zeros (short-rows-kinds r short) (short-rows-zero r short) s f read replay-yes
+      Earlier.admitted-run r earlier.zeros (short-rows-kinds r short) (short-rows-zero r short) s f read replay-yes
 
   -- No and k exactly when they are admitted and k events pass before the first thing not possible.
   pub replay-no : (k : ℕ)
@@ -236,16 +235,16 @@ module _ (s out : List ℕ) (offset : ℕ) (scratch : List ℕ) (j : Judged) (ou
   -- One in which every row of a location has length 1 is judged as document 01 has it, whose memories start as zero.
   module _ (short : ShortRows r) where
     pub allowed-exactly-short : ((steps len : ℕ) × (answerOf j ≡ gives 1 0 steps len))
-        ↔ earlier.HasRun (systemOf r) zeros (r .events)
+        ↔ earlier.HasRun (systemOf r) earlier.zeros (r .events)
     allowed-exactly-short =
-        Earlier.has-run r zeros (short-rows-kinds r short) (short-rows-zero r short) (r .events) allowed-exactly
+        Earlier.has-run r earlier.zeros (short-rows-kinds r short) (short-rows-zero r short) (r .events) allowed-exactly
 
     pub impossible-exactly-short : (e : ℕ)
         → ((len : ℕ) × (answerOf j ≡ gives 0 e 0 len))
-        ↔ (¬ earlier.HasRun (systemOf r) zeros (take e (r .events))
-        × earlier.HasRun (systemOf r) zeros (take (e - 1) (r .events)))
+        ↔ (¬ earlier.HasRun (systemOf r) earlier.zeros (take e (r .events))
+        × earlier.HasRun (systemOf r) earlier.zeros (take (e - 1) (r .events)))
     impossible-exactly-short e =
-        Earlier.no-run r zeros (short-rows-kinds r short) (short-rows-zero r short)
+        Earlier.no-run r earlier.zeros (short-rows-kinds r short) (short-rows-zero r short)
         (take e (r .events)) (take (e - 1) (r .events)) (impossible-exactly e)
 
   -- The file of an allowed verdict gets yes from replay with that log.

@@ -1,6 +1,6 @@
 -- The verdict file of case 4 with two machines, read for logs that it fits and does not fit.
 use mathlib.Core.Path.{_≡_, refl}
-use mathlib.Core.Bool.{true}
+use mathlib.Core.Bool.{true, false}
 use mathlib.Core.List.{[], _∷_}
 use mathlib.Core.Option.{none, some}
 use Rattle.model.specs.Cxl0.{Topology, isLocation, owner}

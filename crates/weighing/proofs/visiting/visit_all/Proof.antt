@@ -5,7 +5,7 @@ use native.Mathlib.Omega.{arith}
 use lib.ListN.{length}
 use mathlib.Core.Path.{_≡_, ap, _∙_}
 use borrow.Author.Needs.{needs}
-use Rattle.model.specs.Cxl0.{owner, initial}
+use Rattle.model.specs.Cxl0.{owner, initial, isPersistent}
 use Rattle.model.specs.OneLocation.{siteOf}
 use Rattle.model.specs.Meaning.{topologyOf}
 use Rattle.model.specs.declared.Location.{Location}
@@ -47,7 +47,7 @@ element-copy-out-h c = omega (arith, few (start c))
 sited : (c : tie.After-at Inv-loop μ-loop)
     → let h = c .before .before .before in
     siteMeant (c .at .result) ≡ siteOf (topologyOf (start h .args .t2)) (turn h .loop .x)
-unfolding siteAt siteOf owner initial
+unfolding siteAt siteOf owner initial isPersistent
 sited c =
     let h = c .before .before .before in
     let t = start h .args .t2 in
