@@ -33,7 +33,7 @@ use words::bytes_after;
 ghost use Prim.Native.Nat.{_<_};
 
 // Room for all cases.
-const INPUT: usize = 262144;
+const INPUT: usize = 524288;
 
 fn say_head(head: Head) {
     say_count(b"accepted ", head.machines as usize);
