@@ -1,11 +1,11 @@
 #!/usr/bin/env python3
 """`cases` prints the cases of replay in crates/cases/stdin. `answers` reads those lines and prints what the program
 must print, by a schedule reader and a replay of the whole system of its own, written from document 01 and requests
-W-201 to W-203 alone."""
+W-201 to W-203 and W-206 alone."""
 import sys
 
 sys.dont_write_bytecode = True
-from format_reference import Refused, asked, members, whole
+from format_reference import PERSISTENT, VOLATILE, Refused, asked, members, whole
 
 # ---- replay
 
@@ -13,10 +13,10 @@ from format_reference import Refused, asked, members, whole
 class System:
     """Caches and memories; each event and each step says whether it is possible, and then changes the state."""
 
-    def __init__(self, machines, persistent, owners, initial):
+    def __init__(self, machines, owners, kept, initial):
         self.owners = owners
+        self.kept = kept  # whether each location's memory is persistent
         self.initial = initial
-        self.persistent = persistent
         self.caches = {i: {} for i in range(1, machines + 1)}
         self.memory = list(initial)
 
@@ -49,9 +49,8 @@ class System:
         else:
             for down in members(x) if operation == 11 else [i]:
                 self.caches[down] = {}
-                if not self.persistent >> (down - 1) & 1:
-                    homes = zip(self.owners, self.initial, self.memory)
-                    self.memory = [v if k == down else m for k, v, m in homes]
+                homes = zip(self.owners, self.kept, self.initial, self.memory)
+                self.memory = [m if kept or k != down else v for k, kept, v, m in homes]
         return True
 
     def step(self, x, i):
@@ -92,7 +91,7 @@ def replay(log, file):
         steps = schedule(file, records)
     except Refused as why:
         return f"number {why}"
-    system = System(records.machines, records.persistent, records.owners, records.initial)
+    system = System(records.machines, records.owners, records.kept, records.initial)
     for passed in range(len(records.events) + 1):
         while steps and steps[0][0] == passed:
             if not system.step(*steps.pop(0)[1:]):
@@ -125,13 +124,13 @@ def event(operation, i, x, *values):
     return field(0x05 if len(values) == 2 else 0x03, operation, i, x, *numbers)
 
 
-def row(owner, initial=0):
-    """The long form where there is an initial value."""
-    return field(0x02, owner, *([initial % 256, initial // 256] if initial else []))
+def row(owner, initial=0, kind=0):
+    """An initial value and a kind byte are there where they are not 0."""
+    return field(0x02, owner, *([initial % 256, initial // 256] if initial else []), *([kind] if kind else []))
 
 
 def log(machines, persistent, homes, events):
-    """A home is an owner, or an owner and an initial value."""
+    """A home is an owner, or an owner, an initial value and, if its kind is not its owner's, that."""
     body = b"".join(row(*home) if isinstance(home, tuple) else row(home) for home in homes)
     body += b"".join(event(*e) for e in events)
     return field(0x01, machines, persistent) + body + END
@@ -335,6 +334,75 @@ def initial_value_cases():
     show("32 initial values, each read after a set crash", every, file([]))
 
 
+def kind_cases():
+    crash_of_2 = (CRASH, 2, 0, 0)
+    for kept, owner, other, kind, left in ((7, "persistent", "volatile", VOLATILE, 7),
+                                           (0, "volatile", "persistent", PERSISTENT, 5)):
+        part, filled = [(2, 0, kind)], [(2, 7, kind)]
+        words = f"{other} memory of a {owner} owner"
+        for value in (5, 0):
+            for down, crash in (("its owner", crash_of_2), ("another", (CRASH, 3, 0, 0)),
+                                ("a set with its owner", together(2, 3)), ("a set without its owner", together(1, 3))):
+                show(f"{words}, MStore of 5, crash of {down}, a load of {value}",
+                     log(3, kept, part, [(M_STORE, 1, 0, 5), crash, (LOAD, 1, 0, value)]), file([]))
+        for value in (7, 5, 0):
+            for down, crash in (("its owner", crash_of_2), ("a set with its owner", together(1, 2))):
+                show(f"{words}, initially 7, MStore of 5, crash of {down}, a load of {value}",
+                     log(3, kept, filled, [(M_STORE, 1, 0, 5), crash, (LOAD, 3, 0, value)]), file([]))
+        for value in (7, 0):
+            show(f"{words}, initially 7, crash of its owner first, a load of {value}",
+                 log(3, kept, filled, [crash_of_2, (LOAD, 1, 0, value)]), file([]))
+        both = [(M_STORE, 1, 0, 5), (M_STORE, 1, 1, 6), crash_of_2]
+        for values in ((5, 6), (5, 0), (0, 6), (0, 0)):
+            loads = [(LOAD, 3, x, v) for x, v in enumerate(values)]
+            show(f"a {owner} owner, L0 of its kind and L1 {other}, loads of {values} after its crash",
+                 log(3, kept, [2, *part], both + loads), file([]))
+            show(f"a {owner} owner, L0 {other} and L1 of its kind, loads of {values} after its crash",
+                 log(3, kept, [*part, 2], both + loads), file([]))
+        for values in ((7, 6), (5, 9), (7, 9), (9, 7), (5, 6), (0, 0)):
+            loads = [(LOAD, 3, x, v) for x, v in enumerate(values)]
+            show(f"a {owner} owner, L0 initially 7 and {other}, L1 initially 9, loads of {values} after a set crash",
+                 log(3, kept, [*filled, (2, 9)], both[:2] + [together(1, 2)] + loads), file([]))
+        flushed = [(L_STORE, 1, 0, 5), (L_FLUSH, 1, 0, 0), crash_of_2]
+        changed(f"{words}, a copy lost with its owner's cache",
+                log(3, kept, filled, flushed + [(LOAD, 1, 0, 7)]), [(1, 0, 1)])
+        for value in (5, 7):
+            show(f"{words}, a copy written back before its owner's crash, a load of {value}",
+                 log(3, kept, filled, flushed + [(LOAD, 1, 0, value)]), file([(1, 0, 1), (1, 0, 0)]))
+            show(f"{words}, RStore, written back before its owner's crash, a load of {value}",
+                 log(3, kept, filled, [(R_STORE, 1, 0, 5), crash_of_2, (LOAD, 3, 0, value)]), file([(1, 0, 0)]))
+        later = [(L_STORE, 1, 0, 5), crash_of_2, (R_FLUSH, 3, 0, 0), crash_of_2, (LOAD, 3, 0, left)]
+        changed(f"{words}, a copy that outlives a crash, written back before the next",
+                log(3, kept, filled, later), [(2, 0, 1), (2, 0, 0)])
+        for form, letter in ((L_RMW, "L"), (R_RMW, "R"), (M_RMW, "M")):
+            for read in (0, 1):
+                show(f"{words}, {letter}-RMW of 0 to 1, crash of its owner, again of {read}",
+                     log(3, kept, part, [(form, 1, 0, 0, 1), crash_of_2, (form, 3, 0, read, 2)]), file([]))
+            show(f"{words}, initially 7, {letter}-RMW of 7 to 8, set crash with its owner, again of 7",
+                 log(3, kept, filled, [(form, 1, 0, 7, 8), together(1, 2), (form, 3, 0, 7, 8)]), file([]))
+    kept = log(3, 0, [(2, 7, PERSISTENT)], [(L_STORE, 1, 0, 5), (R_FLUSH, 1, 0, 0), crash_of_2, (LOAD, 3, 0, 5)])
+    changed("a journal of a volatile owner, flushed before its crash", kept, [(1, 0, 1), (1, 0, 0)])
+    mixed = [(M_STORE, 1, x, x + 1) for x in range(4)] + [together(1, 2)]
+    homes = [(1, 0, PERSISTENT), (2, 0, VOLATILE), (3, 0, PERSISTENT), 3]
+    for values in ((1, 0, 3, 4), (0, 0, 3, 4), (1, 2, 3, 4), (1, 0, 0, 4), (1, 0, 3, 0)):
+        show(f"L0 persistent of volatile 1, L1 volatile of persistent 2, volatile 3 outside the set, loads of {values}",
+             log(3, 2, homes, mixed + [(LOAD, 3, x, v) for x, v in enumerate(values)]), file([]))
+    # Six machines of which 1, 3 and 5 are persistent; the kind of every second of a machine's locations differs.
+    owners = [x // 2 % 6 + 1 for x in range(32)]
+    differ = {1: VOLATILE, 0: PERSISTENT}
+    homes = [(k, 0x0102 * x + 1, differ[k % 2] if x % 2 else 0) for x, k in enumerate(owners)]
+    survives = [(k % 2 == 1) != (x % 2 == 1) for x, k in enumerate(owners)]
+    stores = [(M_STORE, 1, x, 0x0201 * x + 2) for x in range(32)]
+    loads = [(LOAD, 6, x, 0x0201 * x + 2 if survives[x] else 0x0102 * x + 1) for x in range(32)]
+    every = stores + [together(*range(1, 7))]
+    show("32 locations, half of them of other kinds than their owners', read after all crash",
+         log(6, 0b010101, homes, every + loads), file([]))
+    for x in (30, 31):
+        wrong = [(LOAD, 6, x, 0x0102 * x + 1 if survives[x] else 0x0201 * x + 2)]
+        show(f"the same, and L{x} as if its kind were the other",
+             log(6, 0b010101, homes, every + loads[:x] + wrong), file([]))
+
+
 def refused_schedules():
     it = MARKED[4]
     step = field(0x11, 1, 0, 1)
@@ -401,14 +469,26 @@ def refused_logs():
             ("an initial value 0 in the long form: 14", three([1])[:-3] + field(0x02, 1, 0, 0) + END),
             ("owner 4 of 3 with an initial value: 6", three([(4, 7)])),
             ("owner 4 of 3 with an initial value 0: 6", three([1])[:-3] + field(0x02, 4, 0, 0) + END),
-            ("a location of length 2: 4", three([1])[:-3] + field(0x02, 1, 7) + END),
+            ("a location of length 2, with a value's low byte: 16", three([1])[:-3] + field(0x02, 1, 7) + END),
             ("an initial value that is cut: 2", three([(1, 7)])[:-4]),
-            ("a byte after the end: 12", three([1]) + b"\0")]:
+            ("a byte after the end: 12", three([1]) + b"\0"),
+            ("kind 0: 16", three([1])[:-3] + field(0x02, 1, 0) + END),
+            ("its persistent owner's own kind: 16", three([(1, 0, PERSISTENT)])),
+            ("its volatile owner's own kind, after an initial value: 16", log(3, 5, [1, (2, 7, VOLATILE)], [])),
+            ("owner 4 of 3 with a kind: 6", three([(4, 7, VOLATILE)])),
+            ("an initial value 0 with a kind: 14", three([1])[:-3] + field(0x02, 1, 0, 0, VOLATILE) + END),
+            ("an initial value 0, before its kind 0: 14", three([1])[:-3] + field(0x02, 1, 0, 0, 0) + END),
+            ("a location of length 5: 4", three([1])[:-3] + field(0x02, 1, 7, 0, VOLATILE, 0) + END),
+            ("a kind that is cut: 2", three([(1, 7, VOLATILE)])[:-4]),
+            ("a 33rd location with a kind: 7", three([(1, 0, VOLATILE)] * 33))]:
         show(f"log: {words}", data, good)
     show("log: owner 4 of 3, before the schedule's 13: 6", three([4]), bad)
     show("log: a byte after the end, before the schedule's 13: 12", three([1]) + b"\0", bad)
     show("log: a set crash of no machine, before the schedule's 13: 15", three([1], together()), bad)
     show("log: an initial value 0, before the schedule's 13: 14", field(0x01, 3, 7) + field(0x02, 1, 0, 0) + END, bad)
+    show("log: its owner's own kind, before the schedule's 13: 16", three([(1, 0, PERSISTENT)]), bad)
+    show("a log with a kind, and an empty schedule: 13", three([(1, 0, VOLATILE)]), bad)
+    show("a log with a kind, and its owner as the machine of a step: 13", three([(1, 0, VOLATILE)]), file([(0, 0, 1)]))
 
 
 def drawn(state):
@@ -418,7 +498,7 @@ def drawn(state):
         yield state // 65536
 
 
-def drawn_cases(numbers, state, operations, read=(0, 1), written=(0, 1, 2), initial=(0,)):
+def drawn_cases(numbers, state, operations, read=(0, 1), written=(0, 1, 2), initial=(0,), differs=(False,)):
     draw = drawn(state)
 
     def below(n):
@@ -432,7 +512,9 @@ def drawn_cases(numbers, state, operations, read=(0, 1), written=(0, 1, 2), init
         persistent = below(2 ** n)
         owners = [1 + below(n) for _ in range(1 + below(2))]
         filled = [one_of(initial) for _ in owners]
-        system, events, steps = System(n, persistent, owners, filled), [], []
+        kept = [(persistent >> k - 1 & 1) != one_of(differs) for k in owners]
+        kinds = [0 if persistent >> k - 1 & 1 == p else PERSISTENT if p else VOLATILE for k, p in zip(owners, kept)]
+        system, events, steps = System(n, owners, kept, filled), [], []
 
         def draw_step():
             x, i = below(len(owners)), below(n + 1)
@@ -451,7 +533,7 @@ def drawn_cases(numbers, state, operations, read=(0, 1), written=(0, 1, 2), init
 
         for _ in range(20):
             (draw_step if below(2) else draw_event)()
-        show(f"drawn {number}", log(n, persistent, list(zip(owners, filled)), events), file(steps))
+        show(f"drawn {number}", log(n, persistent, list(zip(owners, filled, kinds)), events), file(steps))
 
 
 def cases():
@@ -460,6 +542,7 @@ def cases():
     rmw_cases()
     set_crash_cases()
     initial_value_cases()
+    kind_cases()
     refused_schedules()
     refused_logs()
     drawn_cases(range(1, 61), 4, CRASH)
@@ -467,6 +550,8 @@ def cases():
     drawn_cases(range(71, 79), 7, SET_CRASH)
     bytes_differ = (0, 0x0102, 0x0201)
     drawn_cases(range(79, 89), 8, SET_CRASH, bytes_differ, bytes_differ, bytes_differ)
+    drawn_cases(range(89, 105), 9, SET_CRASH, differs=(False, True))
+    drawn_cases(range(105, 117), 10, SET_CRASH, (0, 7), (0, 7, 1), (0, 7), (False, True))
 
 
 {"cases": cases, "answers": answers}[sys.argv[1]]()
