@@ -3,6 +3,7 @@
 judged in. A case is a line `j NAME LOG OUTPUT OFFSET SCRATCH`, and a comment above it says what is to come out."""
 
 LSTORE, RSTORE, MSTORE, LOAD, LFLUSH, RFLUSH, CRASH, LRMW, RRMW, MRMW, SETCRASH = range(1, 12)
+VOLATILE, PERSISTENT = 1, 2  # kinds of memory
 LONGEST = 1544  # bytes of a verdict file
 WORDS = 4096  # the fewest numbers of a scratch area
 
@@ -15,9 +16,9 @@ def head(machines, persistent):
     return field(0x01, machines, persistent)
 
 
-def row(owner, initial=0):
-    """The long form where there is an initial value."""
-    return field(0x02, owner, *([initial % 256, initial // 256] if initial else []))
+def row(owner, initial=0, kind=0):
+    """An initial value and a kind byte are there where they are not 0."""
+    return field(0x02, owner, *([initial % 256, initial // 256] if initial else []), *([kind] if kind else []))
 
 
 def event(operation, machine, location=0, *values):
@@ -34,9 +35,13 @@ def together(*machines):
 END = field(0x04)
 
 
+def kind_of(persistent):
+    return PERSISTENT if persistent else VOLATILE
+
+
 def log(homes, events, machines=3, persistent=None):
-    """The log of a system with these homes, an owner or an owner and an initial value each; all machines are persistent
-    unless said."""
+    """The log of a system with these homes, an owner or an owner, an initial value and a kind each; all machines are
+    persistent unless said."""
     everyone = (1 << machines) - 1
     kinds = everyone if persistent is None else persistent
     rows = b"".join(row(*home) if isinstance(home, tuple) else row(home) for home in homes)
@@ -256,6 +261,23 @@ def set_crash_logs():
          log([2], turns + [together(1, 2, 3), (LOAD, 1, 0, 12)], persistent=0))
 
 
+# A location initially 7, a store of 5 by another machine, a crash of the owner. By the form of the store, whether the
+# storing machine is in the crash too, and whether the memory is persistent: the outcomes of loads of 7 and of 5.
+AFTER_CRASH = {
+    ("L", False, False): ("allowed, one step", "allowed, no steps"),
+    ("L", False, True): ("allowed, one step", "allowed, no steps"),
+    ("L", True, False): ("allowed, no steps", "impossible, 3"),
+    ("L", True, True): ("allowed, no steps", "allowed, two steps"),
+    ("R", False, False): ("allowed, no steps", "impossible, 3"),
+    ("R", False, True): ("allowed, no steps", "allowed, one step"),
+    ("R", True, False): ("allowed, no steps", "impossible, 3"),
+    ("R", True, True): ("allowed, no steps", "allowed, one step"),
+    ("M", False, False): ("allowed, no steps", "impossible, 3"),
+    ("M", False, True): ("impossible, 3", "allowed, no steps"),
+    ("M", True, False): ("allowed, no steps", "impossible, 3"),
+    ("M", True, True): ("impossible, 3", "allowed, no steps")}
+
+
 def initial_value_logs():
     """Initial values: memories have them at the start, and volatile ones again after a crash of their owner."""
     for initial, others in ((7, [0]), (1, [0, 256]), (255, [65280]), (256, [1]), (0x0102, [0x0201, 2]), (65535, [0])):
@@ -264,21 +286,7 @@ def initial_value_logs():
         for other in others:
             case(f"initial-{initial}-{other}", f"a load of {other} where the initial value is {initial}: impossible, 1",
                  log([(2, initial)], [(LOAD, 1, 0, other)]))
-    outcomes = {  # form, whether the storing machine crashes with the owner, whether the owner is persistent: the
-        # outcomes of loads of the initial value 7 and of the value stored, 5
-        ("L", False, False): ("allowed, one step", "allowed, no steps"),
-        ("L", False, True): ("allowed, one step", "allowed, no steps"),
-        ("L", True, False): ("allowed, no steps", "impossible, 3"),
-        ("L", True, True): ("allowed, no steps", "allowed, two steps"),
-        ("R", False, False): ("allowed, no steps", "impossible, 3"),
-        ("R", False, True): ("allowed, no steps", "allowed, one step"),
-        ("R", True, False): ("allowed, no steps", "impossible, 3"),
-        ("R", True, True): ("allowed, no steps", "allowed, one step"),
-        ("M", False, False): ("allowed, no steps", "impossible, 3"),
-        ("M", False, True): ("impossible, 3", "allowed, no steps"),
-        ("M", True, False): ("allowed, no steps", "impossible, 3"),
-        ("M", True, True): ("impossible, 3", "allowed, no steps")}
-    for (letter, both, kept), results in outcomes.items():
+    for (letter, both, kept), results in AFTER_CRASH.items():
         form = {"L": LSTORE, "R": RSTORE, "M": MSTORE}[letter]
         crash, which = (together(1, 2), "set") if both else ((CRASH, 2), "owner")
         memory = "persistent" if kept else "volatile"
@@ -363,18 +371,136 @@ def initial_value_logs():
     case("initial-back-0", "the same and 0: impossible, 7", log([(1, 7)], back + [(LOAD, 3, 0, 0)]))
 
 
-def full(last, initial=(0,) * 32):
+def kind_logs():
+    """Kinds: a crash of the owner asks each location whether its memory is volatile."""
+    case("kind-length-2", "a location with a kind and no events: allowed, no steps", log([(1, 0, VOLATILE)], []))
+    for (letter, both, kept), results in AFTER_CRASH.items():
+        form = {"L": LSTORE, "R": RSTORE, "M": MSTORE}[letter]
+        crash, which = (together(1, 2), "set") if both else ((CRASH, 2), "owner")
+        memory, owner = ("persistent", "volatile") if kept else ("volatile", "persistent")
+        for value, outcome in zip((7, 5, 0), results + ("impossible, 3",)):
+            case(f"kind-{letter}-{which}-{memory}-{value}", f"{memory} memory of a {owner} owner, initially 7, {letter}"
+                 f"Store of 5, crash of the owner{' and the storing machine' if both else ''}, load of {value}: "
+                 f"{outcome}", log([(2, 7, kind_of(kept))], [(form, 1, 0, 5), crash, (LOAD, 3, 0, value)],
+                                   persistent=0 if kept else 0b111))
+    for kept, memory, owners in ((False, "volatile", 0b111), (True, "persistent", 0)):
+        home, filled = [(2, 0, kind_of(kept))], [(2, 7, kind_of(kept))]
+        for name, crash in (("one", (CRASH, 3)), ("set", together(1, 3))):
+            for value, outcome in ((5, "allowed, no steps"), (7, "impossible, 3")):
+                case(f"kind-other-{name}-{memory}-{value}", f"{memory} memory, and crashes of other machines than its "
+                     f"owner, load of {value}: {outcome}",
+                     log(filled, [(MSTORE, 1, 0, 5), crash, (LOAD, 1, 0, value)], persistent=owners))
+        for value, outcome in ((7, "allowed, no steps"), (0, "impossible, 2")):
+            case(f"kind-first-{memory}-{value}", f"{memory} memory, a crash of its owner, load of {value}: {outcome}",
+                 log(filled, [(CRASH, 2), (LOAD, 1, 0, value)], persistent=owners))
+        flushes = {(LFLUSH, False): ("allowed, one step", "impossible, 4"),
+                   (LFLUSH, True): ("allowed, one step", "allowed, two steps"),
+                   (RFLUSH, False): ("allowed, two steps", "impossible, 4"),
+                   (RFLUSH, True): ("impossible, 4", "allowed, two steps")}
+        for flush, words in ((LFLUSH, "LFlush"), (RFLUSH, "RFlush")):
+            for value, outcome in zip((7, 5), flushes[flush, kept]):
+                case(f"kind-{words}-{memory}-{value}", f"{memory} memory, LStore and {words} by another machine, crash "
+                     f"of the owner, load of {value}: {outcome}",
+                     log(filled, [(LSTORE, 1, 0, 5), (flush, 1, 0), (CRASH, 2), (LOAD, 1, 0, value)],
+                         persistent=owners))
+        back = "allowed, two steps" if kept else "impossible, 4"
+        for name, crashes, outcome in (("apart", [(CRASH, 2), (CRASH, 1)], "allowed, one step"),
+                                       ("apart-back", [(CRASH, 1), (CRASH, 2)], back),
+                                       ("together", [together(1, 2)], back.replace("4", "3"))):
+            case(f"kind-{name}-{memory}", f"{memory} memory, a copy of 1 and crashes of 2, its owner, and 1, {name}: "
+                 f"{outcome}", log(home, [(LSTORE, 1, 0, 5), *crashes, (LOAD, 3, 0, 5)], persistent=owners))
+        for value in (7, 1, 2, 3):
+            outcome = "allowed" if value == 7 or kept and value != 3 else "impossible, 4"
+            case(f"kind-memory-{memory}-{value}", f"one of the values that {memory} memory may have: {outcome}",
+                 log(filled, [(RSTORE, 3, 0, 1), (RSTORE, 3, 0, 2), (CRASH, 2), (LOAD, 3, 0, value)],
+                     persistent=owners))
+        late = [(LSTORE, 1, 0, 5), (CRASH, 2), (RFLUSH, 3, 0), (CRASH, 2)]
+        for value, outcome in ((5, "allowed, two steps" if kept else "impossible, 5"),
+                               (7, "allowed, one step" if kept else "allowed, two steps")):
+            case(f"kind-late-{memory}-{value}", f"{memory} memory, a copy that may outlive a crash, flushed before the "
+                 f"next, load of {value}: {outcome}", log(filled, late + [(LOAD, 3, 0, value)], persistent=owners))
+        for form, letter in ((LRMW, "L"), (RRMW, "R"), (MRMW, "M")):
+            again = [(form, 1, 0, 7, 8), together(1, 2), (form, 3, 0, 7, 8)]
+            outcome = "impossible, 3" if kept and letter == "M" else "allowed, no steps"
+            case(f"kind-rmw-{letter}-{memory}", f"{memory} memory, 7 to 8 by {letter}-RMW, set crash with the owner, "
+                 f"again 7 to 8: {outcome}", log(filled, again, persistent=owners))
+            steps = {"L": "allowed, two steps", "R": "allowed, one step", "M": "allowed, no steps"}[letter]
+            case(f"kind-rmw-{letter}-{memory}-kept", f"the same, and 8 to 9: {steps if kept else 'impossible, 3'}",
+                 log(filled, again[:2] + [(form, 3, 0, 8, 9)], persistent=owners))
+        # The journal is the persistent location of host 2, the index the volatile one.
+        journal, index = (2, (2, 0, VOLATILE)) if owners else ((2, 0, PERSISTENT), 2)
+        host = "persistent" if owners else "volatile"
+        stores = [(MSTORE, 1, 0, 5), (MSTORE, 1, 1, 6)]
+        for crash, which in (((CRASH, 2), "owner"), (together(2, 3), "set")):
+            for values, outcome in (((5, 0), "allowed, no steps"), ((5, 6), "impossible, 5"), ((0, 0), "impossible, 4"),
+                                    ((0, 6), "impossible, 4")):
+                read = [(LOAD, 3, x, v) for x, v in enumerate(values)]
+                case(f"kind-journal-{host}-{which}-{values[0]}-{values[1]}", f"journal and index of a {host} host, "
+                     f"MStores of 5 and 6, crash of the {which}, loads of {values[0]} and {values[1]}: {outcome}",
+                     log([journal, index], stores + [crash] + read, persistent=owners))
+        for crash, which in (((CRASH, 3), "another"), (together(1, 3), "others")):
+            for values, outcome in (((5, 6), "allowed, no steps"), ((5, 0), "impossible, 5")):
+                read = [(LOAD, 3, x, v) for x, v in enumerate(values)]
+                case(f"kind-journal-{host}-{which}-{values[0]}-{values[1]}", "the same, crash of "
+                     f"{which}, loads of {values[0]} and {values[1]}: {outcome}",
+                     log([journal, index], stores + [crash] + read, persistent=owners))
+        cached = [(RSTORE, 1, 0, 5), (RSTORE, 1, 1, 6), (CRASH, 2)]
+        for values, outcome in (((5, 0), "allowed, one step"), ((0, 0), "allowed, no steps"), ((5, 6), "impossible, 5"),
+                                ((0, 6), "impossible, 5")):
+            case(f"kind-cached-{host}-{values[0]}-{values[1]}", f"RStores of 5 and 6 to the journal and the index of a "
+                 f"{host} host, its crash, loads of {values[0]} and {values[1]}: {outcome}",
+                 log([journal, index], cached + [(LOAD, 3, x, v) for x, v in enumerate(values)], persistent=owners))
+        turns = [e for n in range(1, 11) for e in ((LSTORE, 1, 0, n), (RSTORE, 1, 1, n), (RFLUSH, 1, 0), (CRASH, 2),
+                                                   (LOAD, 3, 0, n), (LOAD, 3, 1, 0))]
+        case(f"kind-turns-{host}", f"10 values that the journal of a {host} host keeps and its index loses: allowed, "
+             "20 steps",
+             log([journal, index], turns, persistent=owners))
+        case(f"kind-turns-{host}-index", "the same, and the last value of the index: impossible, 60",
+             log([journal, index], turns[:-1] + [(LOAD, 3, 1, 10)], persistent=owners))
+        case(f"kind-turns-{host}-journal", "the same, and the last but one of the journal: impossible, 59",
+             log([journal, index], turns[:-2] + [(LOAD, 3, 0, 9)], persistent=owners))
+    parts = [(1, 11, VOLATILE), (2, 12, PERSISTENT), 1, 2, (3, 15, PERSISTENT), (3, 16)]
+    stores = [(MSTORE, 3, x, x + 1) for x in range(6)] + [together(1, 2)]
+    for values, outcome in (((11, 2, 3, 0, 5, 6), "allowed, no steps"), ((1, 2, 3, 0, 5, 6), "impossible, 8"),
+                            ((11, 12, 3, 0, 5, 6), "impossible, 9"), ((11, 2, 0, 0, 5, 6), "impossible, 10"),
+                            ((11, 2, 3, 4, 5, 6), "impossible, 11"), ((11, 2, 3, 0, 15, 6), "impossible, 12"),
+                            ((11, 2, 3, 0, 5, 16), "impossible, 13")):
+        read = [(LOAD, 3, x, v) for x, v in enumerate(values)]
+        case(f"kind-mixed-{'-'.join(map(str, values))}", "both kinds of memory of persistent 1 and volatile 2 in the "
+             f"set and of volatile 3 outside, loads of {', '.join(map(str, values))}: {outcome}",
+             log(parts, stores + read, persistent=0b001))
+    passed_on = [(RSTORE, 1, 0, 1), (LOAD, 2, 0, 1), (RSTORE, 2, 1, 1), (CRASH, 2), (LOAD, 1, 1, 1), (LOAD, 1, 0, 0)]
+    case("kind-passed-on", "a value read, passed on and lost with the owner's volatile part: allowed",
+         log([(2, 0, VOLATILE), 1], passed_on))
+    case("kind-passed-on-M", "the same with MStore first: allowed, no steps",
+         log([(2, 0, VOLATILE), 1], [(MSTORE, 1, 0, 1)] + passed_on[1:]))
+    case("kind-passed-on-persistent", "the same where the part of a volatile owner is persistent: impossible, 6",
+         log([(2, 0, PERSISTENT), 1], [(MSTORE, 1, 0, 1)] + passed_on[1:], persistent=0))
+    case("kind-least-event", "three locations with kinds, each impossible at an event of its own: impossible, 5",
+         log([(1, 0, VOLATILE), (2, 0, VOLATILE), (3, 0, VOLATILE)], [(MSTORE, 1, x, 1) for x in range(3)]
+             + [together(1, 2, 3), (LOAD, 1, 1, 1), (LOAD, 1, 2, 1), (LOAD, 1, 0, 1)]))
+    case("kind-crashes", "kinds and crashes alone: allowed, no steps",
+         log([(1, 7, VOLATILE), 2, (3, 0, VOLATILE)], [(CRASH, 1), together(1, 2, 3), (CRASH, 3)]))
+    for name, kind, outcome in (("volatile", VOLATILE, "impossible, 7"), ("persistent", PERSISTENT, "allowed")):
+        back = [(LSTORE, 2, 0, 1), together(2, 3), (LSTORE, 3, 0, 2), together(1, 3), (LSTORE, 2, 0, 3), together(1, 2)]
+        case(f"kind-back-{name}", f"several set crashes, a value from before the first, {name} memory: {outcome}",
+             log([(1, 0, kind)], back + [(LOAD, 3, 0, 1)], persistent=0b111 if kind == VOLATILE else 0))
+
+
+def full(last, initial=(0,) * 32, differs=(False,) * 32):
     """128 events on 32 locations of six machines, three of them volatile: each location is stored, read elsewhere, put
     through a crash of every machine, read again and flushed; the last event is as given."""
     owners = [x % 6 + 1 for x in range(32)]
     kept = 0b101010
+    survives = [(kept >> owner - 1 & 1) != other for owner, other in zip(owners, differs)]
+    kinds = [kind_of(survives[x]) if differs[x] else 0 for x in range(32)]
     others = [owner % 6 + 1 for owner in owners]
     events = [(LSTORE, others[x], x, 1000 + x) for x in range(32)]
     events += [(LOAD, others[x] % 6 + 1, x, 1000 + x) for x in range(32)]
     events += [(CRASH, machine) for machine in range(1, 7)]
-    events += [(LOAD, 1, x, 1000 + x if kept >> owners[x] - 1 & 1 else initial[x]) for x in range(32)]
+    events += [(LOAD, 1, x, 1000 + x if survives[x] else initial[x]) for x in range(32)]
     events += [(RFLUSH, 1, x) for x in range(25)]
-    return log(zip(owners, initial), events + [last], machines=6, persistent=kept)
+    return log(zip(owners, initial, kinds), events + [last], machines=6, persistent=kept)
 
 
 def large_logs():
@@ -404,6 +530,28 @@ def large_logs():
     events = [(form, 6 - x % 6, x, filled[x][1] + n, filled[x][1] + n + 1) for form, n in quarters for x in range(32)]
     case("initial-longest", "32 initial values and 128 read-modify-writes, 1,480 bytes: allowed",
          log(filled, events, machines=6, persistent=0b010101))
+    # The kind of every second of a machine's locations differs from its owner's; 1, 3 and 5 are persistent.
+    parts = [(x // 2 % 6 + 1, 0x0101 * x + 0x0100, x % 2) for x in range(32)]
+    survives = [owner % 2 != differs for owner, _, differs in parts]
+    mixed = [(owner, initial, kind_of(survives[x]) if differs else 0) for x, (owner, initial, differs) in
+             enumerate(parts)]
+    lost = [(MSTORE, 6, x, x + 1) for x in range(32)] + [together(*range(1, 7))]
+    read = [(LOAD, 1 + x % 5, x, x + 1 if survives[x] else parts[x][1]) for x in range(32)]
+    case("kind-32", "32 locations, two of each kind for each machine in turn, read after all crash: allowed, no steps",
+         log(mixed, lost + read, machines=6, persistent=0b010101))
+    for x, value in ((30, 31), (31, parts[31][1])):
+        case(f"kind-32-{x}", f"the same, and L{x} as if its kind were the other: impossible, {34 + x}",
+             log(mixed, lost + read[:x] + [(LOAD, 1, x, value)], machines=6, persistent=0b010101))
+    differs = [x // 6 % 2 == 1 for x in range(32)]
+    case("kind-full", "128 events and 32 locations, of each machine some of the other kind: allowed",
+         full((LOAD, 6, 31, values[31]), values, differs))
+    case("kind-full-impossible", "the same, and the last load as if L31 had its owner's kind: impossible, 128",
+         full((LOAD, 6, 31, 1031), values, differs))
+    homes = [(owner, initial, kind_of(owner % 2 == 0)) for owner, initial in filled]
+    for name, last, outcome in (("", events[-1], "allowed"),
+                                ("-last", events[-1][:3] + (0, 0), "impossible, 128")):
+        case(f"kind-longest{name}", f"32 initial values and kinds and 128 read-modify-writes, 1,512 bytes: {outcome}",
+             log(homes, events[:-1] + [last], machines=6, persistent=0b010101))
 
 
 def refusals():
@@ -414,7 +562,7 @@ def refusals():
     case("refused-2-end", "no end field: number 2", good[:-3])
     case("refused-3", "an unknown tag: number 3", head(3, 7) + field(0x06) + END)
     case("refused-3-first", "no head: number 3", row(1) + END)
-    case("refused-4", "a location of length 2: number 4", head(3, 7) + field(0x02, 1, 1) + END)
+    case("refused-4", "a location of length 5: number 4", head(3, 7) + field(0x02, 1, 7, 0, VOLATILE, 0) + END)
     case("refused-4-rmw", "a read-modify-write of length 5: number 4", head(3, 7) + field(0x05, 8, 1, 0, 0, 0) + END)
     case("refused-5", "no machines: number 5", head(0, 0) + END)
     case("refused-5-seven", "7 machines: number 5", head(7, 0) + END)
@@ -443,11 +591,38 @@ def refusals():
     case("refused-14-tail", "the same, before a byte after the end: number 14", head(3, 7) + zero + END + b"\0")
     case("refused-2-initial", "an initial value without its high byte: number 2", head(3, 7) + row(1, 7)[:-1])
     case("refused-3-initial", "a location with an initial value 0 after an event: number 3", good[:-3] + zero + END)
-    case("refused-4-initial", "a location of length 4: number 4", head(3, 7) + field(0x02, 1, 0, 0, 0) + END)
+    case("refused-4-initial", "a location of length 5, before its initial value 0 and its kind 0: number 4",
+         head(3, 7) + field(0x02, 1, 0, 0, 0, 0) + END)
     case("refused-6-initial", "owner 4 of 3 with an initial value: number 6", log([(4, 7)], []))
     case("refused-6-zero", "owner 4 of 3 with an initial value 0: number 6", head(3, 7) + field(0x02, 4, 0, 0) + END)
     case("refused-7-initial", "a 33rd location, with an initial value 0: number 7", log([1] * 32, [])[:-3] + zero + END)
     case("refused-10-initial", "location 2 of 2 with initial values: number 10", log([(1, 7)] * 2, [(LOAD, 1, 2, 7)]))
+    for owners, persistent, own in (("persistent", 7, PERSISTENT), ("volatile", 0, VOLATILE)):
+        for kind in (0, own, 3, 255):
+            words = "its owner's own kind" if kind == own else f"kind {kind}"
+            case(f"refused-16-{owners}-{kind}", f"{words} of a {owners} owner: number 16",
+                 head(3, persistent) + field(0x02, 2, kind) + END)
+            case(f"refused-16-{owners}-{kind}-initial", "the same after an initial value: number 16",
+                 head(3, persistent) + field(0x02, 2, 7, 0, kind) + END)
+    none = field(0x02, 1, 0)
+    case("refused-16-others", "kind 1 of a volatile owner, the others persistent: number 16",
+         log([(2, 0, VOLATILE)], [], persistent=0b101))
+    case("refused-16-second", "kind 0 in a second location: number 16", head(3, 7) + row(1, 0, VOLATILE) + none + END)
+    case("refused-16-first", "kind 0, before an owner 4 of 3: number 16", head(3, 7) + none + row(4) + END)
+    case("refused-16-event", "kind 0, before an operation 0: number 16", head(3, 7) + none + event(0, 1) + END)
+    case("refused-16-tail", "kind 0, before a byte after the end: number 16", head(3, 7) + none + END + b"\0")
+    case("refused-6-kind", "owner 4 of 3 with kind 0: number 6", head(3, 7) + field(0x02, 4, 0) + END)
+    case("refused-6-kind-initial", "owner 4 of 3 with an initial value 0 and kind 0: number 6",
+         head(3, 7) + field(0x02, 4, 0, 0, 0) + END)
+    case("refused-14-kind", "an initial value 0 with a kind: number 14", head(3, 7) + field(0x02, 1, 0, 0, 1) + END)
+    case("refused-14-kind-0", "an initial value 0, before its kind 0: number 14",
+         head(3, 7) + field(0x02, 1, 0, 0, 0) + END)
+    case("refused-2-kind", "a location without its kind: number 2", head(3, 7) + row(1, 0, VOLATILE)[:-1])
+    case("refused-2-kind-initial", "the same after an initial value: number 2", head(3, 7) + row(1, 7, VOLATILE)[:-1])
+    case("refused-3-kind", "a location with kind 0 after an event: number 3", good[:-3] + none + END)
+    case("refused-7-kind", "a 33rd location with a kind: number 7", log([(1, 0, VOLATILE)] * 33, []))
+    case("refused-7-kind-0", "a 33rd location, with kind 0: number 7", log([1] * 32, [])[:-3] + none + END)
+    case("refused-10-kind", "location 2 of 2 with kinds: number 10", log([(1, 7, VOLATILE)] * 2, [(LOAD, 1, 2, 7)]))
     case("refused-15", "a set crash of no machine, before its value: number 15", log([1], [(SETCRASH, 0, 0, 1)]))
     case("refused-15-one", "a set crash of machine 2 alone: number 15", log([1], [together(2)]))
     case("refused-15-absent", "a set crash of machines 1, 2 and 4 of 3: number 15", log([1], [together(1, 2, 4)]))
@@ -486,6 +661,15 @@ def areas():
     case("initial-offset-refused", "an initial value 0, at an offset: number 14", zero, 4000, 1000, 5000)
     case("initial-output-short", "a short output before an initial value 0: number 1", zero, output=1543)
     case("initial-scratch-short", "a short scratch area before an initial value 0: number 1", zero, scratch=4095)
+    journal = [(2, 7, PERSISTENT)]
+    case("kind-offset", "a kind, an offset and a larger scratch area: allowed, two steps",
+         log(journal, lost + [(LOAD, 1, 0, 5)], persistent=0), 4000, 1000, 5000)
+    case("kind-offset-0", "the same with a load of 0: impossible, 4",
+         log(journal, lost + [(LOAD, 1, 0, 0)], persistent=0), 4000, 1000, 5000)
+    none = head(3, 7) + field(0x02, 1, 0) + END
+    case("kind-offset-refused", "a kind 0, at an offset: number 16", none, 4000, 1000, 5000)
+    case("kind-output-short", "a short output before a kind 0: number 1", none, output=1543)
+    case("kind-scratch-short", "a short scratch area before a kind 0: number 1", none, scratch=4095)
 
 
 marked_logs()
@@ -493,6 +677,7 @@ small_logs()
 rmw_logs()
 set_crash_logs()
 initial_value_logs()
+kind_logs()
 large_logs()
 refusals()
 areas()

@@ -1,9 +1,9 @@
 #!/usr/bin/env python3
 """judge_reference.py STDIN STDOUT: is STDOUT what crates/cases must print on STDIN, the judge's cases?
 
-Each log is judged anew, from document 01 and requests W-201 to W-203 alone: a location at a time, forward, with every
-state that its silent steps can reach. A schedule that was printed is replayed on the whole system. The exit status is 0
-only where nothing is wrong."""
+Each log is judged anew, from document 01 and requests W-201 to W-203 and W-206 alone: a location at a time, forward,
+with every state that its silent steps can reach. A schedule that was printed is replayed on the whole system. The exit
+status is 0 only where nothing is wrong."""
 import sys
 
 from format_reference import Refused, fields, members
@@ -27,10 +27,6 @@ def accepted(data):
 
 
 # One location: the value that each machine's cache holds, or None, and the value in memory.
-
-
-def volatile(records, machine):
-    return not records.persistent >> machine - 1 & 1
 
 
 def without(caches, machine):
@@ -88,7 +84,7 @@ def after(records, x, event, state):
     down = members(location) if operation == SETCRASH else [machine]
     for machine in down:
         caches = without(caches, machine)
-    return caches, records.initial[x] if owner in down and volatile(records, owner) else memory
+    return caches, records.initial[x] if owner in down and not records.kept[x] else memory
 
 
 def silently(owner, states):
