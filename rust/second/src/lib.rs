@@ -1,4 +1,4 @@
-//! A second judge of CXL0 logs, written from the specification (document 01, requests W-201 to W-203) alone.
+//! A second judge of CXL0 logs, written from the specification (document 01, requests W-201 to W-203 and W-206) alone.
 //!
 //! It shares no code, no table and no idea of search with the proved judge: it reads the bytes, follows every choice of
 //! silent steps breadth first, one location at a time, and remembers how it got to each state. [`whole`] does the same
@@ -15,7 +15,7 @@ pub mod verdict_file;
 pub mod whole;
 
 pub use judge::{judge, judge_bytes, judge_into, Judged, Verdict, SCRATCH_LEAST};
-pub use log::{read, Event, Home, Log, Operation};
+pub use log::{read, Event, Home, Kind, Log, Operation};
 pub use recorder::record;
 pub use refusal::Refusal;
 pub use system::{replay, replay_bytes, Replayed, System};

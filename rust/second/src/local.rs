@@ -1,6 +1,6 @@
 //! What one location sees of the system. Nothing that happens at one location depends on another.
 
-use crate::{Event, Home, Log, Operation};
+use crate::{Event, Home, Kind, Operation};
 
 /// What the caches and the memory hold for one location. That all copies agree is not assumed.
 #[derive(Clone, Copy, Debug, PartialEq, Eq, Hash)]
@@ -44,14 +44,14 @@ impl Local {
     }
 
     /// The state after a crash of these machines, all in one step.
-    pub(crate) fn crash(&self, crashed: u8, home: Home, log: &Log) -> Local {
+    pub(crate) fn crash(&self, crashed: u8, home: Home) -> Local {
         let mut next = *self;
         let mut left = crashed;
         while left != 0 {
             next = next.without_copy(left.trailing_zeros() as u8 + 1);
             left &= left - 1;
         }
-        if crashed >> (home.owner - 1) & 1 == 1 && !log.is_persistent(home.owner) {
+        if crashed >> (home.owner - 1) & 1 == 1 && home.kind == Kind::Volatile {
             next.memory = home.initial;
         }
         next

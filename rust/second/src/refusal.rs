@@ -31,10 +31,12 @@ impl Refusal {
     pub const TRAILING_BYTES: Refusal = Refusal(12);
     /// The verdict file is no schedule for this log.
     pub const BAD_SCHEDULE: Refusal = Refusal(13);
-    /// The initial value 0 in the long form of a location's field; the short form says it.
+    /// The initial value 0 in a location's field that has bytes for it; the form without says it.
     pub const BAD_INITIAL_VALUE: Refusal = Refusal(14);
     /// A set crash of fewer than two machines, or of one that is none of the system.
     pub const BAD_MACHINE_SET: Refusal = Refusal(15);
+    /// A kind byte that is not the kind that the owner's memory is not.
+    pub const BAD_KIND: Refusal = Refusal(16);
 }
 
 impl fmt::Display for Refusal {

@@ -41,7 +41,7 @@ impl Search {
                 let next = match crashed {
                     0 => state.apply(event, home.owner),
                     // One step of the layer, whatever their number: nothing moves between the machines of a set.
-                    _ => Some(state.crash(crashed, home, log)),
+                    _ => Some(state.crash(crashed, home)),
                 };
                 if let Some(next) = next {
                     self.reach(next, parent, None);

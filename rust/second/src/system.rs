@@ -1,6 +1,6 @@
 //! The whole system: its state, the events and the two silent steps, word for word, and replay.
 
-use crate::{log, read_schedule, Event, Log, Operation, Refusal, Step};
+use crate::{log, read_schedule, Event, Kind, Log, Operation, Refusal, Step};
 
 /// The state of a whole system. It shares nothing with [`crate::local`], so that the two check each other.
 #[derive(Clone, Debug, PartialEq, Eq, Hash)]
@@ -122,7 +122,7 @@ impl System {
         true
     }
 
-    /// The machines' caches are emptied, and what they own is at its initial value again where their memory is volatile.
+    /// The machines' caches are emptied, and what they own in volatile memory is at its initial value again.
     fn crash(&mut self, log: &Log, machines: &[u8]) {
         for (cache, machine) in self.caches.iter_mut().zip(1..) {
             if machines.contains(&machine) {
@@ -130,8 +130,9 @@ impl System {
             }
         }
         for (memory, home) in self.memory.iter_mut().zip(&log.homes) {
-            if machines.contains(&home.owner) && !log.is_persistent(home.owner) {
-                *memory = home.initial;
+            match home.kind {
+                Kind::Volatile if machines.contains(&home.owner) => *memory = home.initial,
+                _ => {}
             }
         }
     }

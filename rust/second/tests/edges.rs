@@ -1,9 +1,9 @@
 //! Refusals in their order, and what stands at the limits.
 
 use corpus::encode::field;
-use corpus::{encode, set_crash, zeroed};
+use corpus::{encode, other_part, plain, set_crash};
 use second::{judge_bytes, judge_into, read, record, replay_bytes};
-use second::{Event, Home, Log, Operation, Refusal, Replayed, Step, Verdict, FILE_MOST, SCRATCH_LEAST};
+use second::{Event, Log, Operation, Refusal, Replayed, Step, Verdict, FILE_MOST, SCRATCH_LEAST};
 
 /// A head of two persistent machines and one location of machine 2, then what is given.
 fn log_of(fields: &[(u8, &[u8])]) -> Vec<u8> {
@@ -132,12 +132,30 @@ fn contents_of_locations_from_left_to_right() {
         (&[255, 0, 0], 6),
         (&[1, 0, 0], 14),
         (&[2, 0, 0], 14),
-        // The length is asked before both.
+        // Both machines are persistent, so the kind is 1.
+        (&[1, 1], 0),
+        (&[2, 1], 0),
+        (&[1, 7, 0, 1], 0),
+        (&[2, 0, 1, 1], 0),
+        (&[1, 0], 16),
+        (&[2, 2], 16),
+        (&[2, 3], 16),
+        (&[1, 255], 16),
+        (&[1, 7, 0, 0], 16),
+        (&[2, 0, 1, 2], 16),
+        (&[2, 255, 255, 129], 16),
+        // It is asked last, after the owner and after the initial value.
+        (&[0, 1], 6),
+        (&[3, 2], 6),
+        (&[0, 0, 0, 2], 6),
+        (&[3, 7, 0, 1], 6),
+        (&[1, 0, 0, 1], 14),
+        (&[2, 0, 0, 0], 14),
+        // The length is asked before all three.
         (&[], 4),
-        (&[0, 0], 4),
-        (&[1, 1], 4),
-        (&[1, 7, 0, 0], 4),
-        (&[3, 0, 0, 0], 4),
+        (&[0, 0, 0, 0, 0], 4),
+        (&[1, 7, 0, 1, 0], 4),
+        (&[1, 7, 0, 1, 7, 0, 1], 4),
     ] {
         let log = [field(1, &[2, 3]), field(2, payload), field(4, &[])].concat();
         assert_eq!(number(&log), expected, "{payload:?}");
@@ -145,14 +163,24 @@ fn contents_of_locations_from_left_to_right() {
         assert_eq!(number(&log_of(&[(2, &[1, 7, 0]), (2, payload), (4, &[])])), expected, "{payload:?}");
     }
     // A payload that is not whole comes before its contents, and after its length.
-    for (cut, expected) in
-        [(&[2, 3, 0][..], 2), (&[2, 3, 0, 0], 2), (&[2, 3, 0, 3, 0], 2), (&[2, 1, 0], 2), (&[2, 2, 0, 1], 4)]
-    {
+    for (cut, expected) in [
+        (&[2, 3, 0][..], 2),
+        (&[2, 3, 0, 0], 2),
+        (&[2, 3, 0, 3, 0], 2),
+        (&[2, 1, 0], 2),
+        (&[2, 2, 0, 0], 2),
+        (&[2, 4, 0, 3], 2),
+        (&[2, 4, 0, 1, 0, 0], 2),
+        (&[2, 0, 0, 1], 4),
+        (&[2, 5, 0, 1], 4),
+    ] {
         assert_eq!(number(&[log_of(&[]), cut.to_vec()].concat()), expected, "{cut:?}");
     }
     // The high byte of the length counts.
     assert_eq!(number(&[log_of(&[]), vec![2, 1, 1, 1]].concat()), 4);
+    assert_eq!(number(&[log_of(&[]), vec![2, 2, 1, 1, 1]].concat()), 4);
     assert_eq!(number(&[log_of(&[]), vec![2, 3, 1, 1, 0, 0]].concat()), 4);
+    assert_eq!(number(&[log_of(&[]), vec![2, 4, 1, 1, 0, 0, 0]].concat()), 4);
 }
 
 #[test]
@@ -164,7 +192,7 @@ fn nothing_after_the_end() {
 
 fn crashes(locations: usize, events: usize) -> Log {
     let crash = Event { operation: Operation::Crash, machine: 1, location: 0, value: 0, written: 0 };
-    Log { machines: 6, persistent: 0, homes: vec![zeroed(6); locations], events: vec![crash; events] }
+    Log { machines: 6, persistent: 0, homes: vec![plain(0, 6, 0); locations], events: vec![crash; events] }
 }
 
 fn rmw(operation: Operation, value: u16, written: u16) -> Event {
@@ -181,6 +209,7 @@ fn counts_at_their_limits() {
     let open = &full[..full.len() - 3];
     assert_eq!(number(&[open, &[2, 0, 0]].concat()), 7);
     assert_eq!(number(&[open, &[2, 3, 0, 6, 0, 0]].concat()), 7);
+    assert_eq!(number(&[open, &[2, 2, 0, 6, 0]].concat()), 7);
     let mut together = Log { events: vec![set_crash(0b111111); 128], ..crashes(32, 0) };
     assert_eq!(number(&encode(&together)), 0);
     together.events.push(set_crash(0));
@@ -191,9 +220,9 @@ fn counts_at_their_limits() {
 #[test]
 fn the_129th_of_both_kinds() {
     let mut longest = Log { events: vec![rmw(Operation::LRmw, 1, 1); 128], ..crashes(32, 0) };
-    longest.homes.fill(Home { owner: 6, initial: 1 });
+    longest.homes.fill(other_part(0, 6, 1));
     let bytes = encode(&longest);
-    assert_eq!((number(&bytes), bytes.len()), (0, 1480));
+    assert_eq!((number(&bytes), bytes.len()), (0, 1512));
     for mut log in [longest, crashes(32, 128)] {
         // Every second one is of the other kind; then one more, of either kind.
         for event in log.events.iter_mut().step_by(2) {
@@ -219,9 +248,13 @@ fn recorder() {
     assert_eq!(buffer[..6], [1, 2, 0, 2, 3, 0xaa]);
     assert_eq!(record(&mut buffer, 4, 2, &[2]), Err(Refusal(2)));
     assert_eq!(record(&mut buffer, 5, 2, &[2]), Ok(9));
-    assert_eq!(record(&mut buffer, 9, 2, &[2, 1]), Err(Refusal(4)));
+    assert_eq!(record(&mut buffer, 9, 2, &[2, 7, 0, 1, 0]), Err(Refusal(4)));
     assert_eq!(record(&mut buffer, 9, 2, &[3, 0, 0]), Err(Refusal(6)));
+    assert_eq!(record(&mut buffer, 9, 2, &[3, 0, 0, 0]), Err(Refusal(6)));
     assert_eq!(record(&mut buffer, 9, 2, &[2, 0, 0]), Err(Refusal(14)));
+    assert_eq!(record(&mut buffer, 9, 2, &[2, 0, 0, 1]), Err(Refusal(14)));
+    assert_eq!(record(&mut buffer, 9, 2, &[2, 2]), Err(Refusal(16)));
+    assert_eq!(record(&mut buffer, 9, 2, &[2, 7, 0, 2]), Err(Refusal(16)));
     assert_eq!(record(&mut buffer, 9, 3, &[8, 1, 0, 0, 0]), Err(Refusal(8)));
     assert_eq!(record(&mut buffer, 9, 5, &[7, 1, 0, 0, 0, 0, 0]), Err(Refusal(8)));
     assert_eq!(record(&mut buffer, 9, 3, &[7, 1, 0, 0, 0]), Err(Refusal(1)));
@@ -240,6 +273,12 @@ fn recorder() {
     assert_eq!(record(&mut buffer, 9, 2, &[1, 0, 1]), Ok(15));
     assert_eq!(buffer[9..], [2, 3, 0, 1, 0, 1, 0, 0, 3, 4, 0xaa]);
     assert_eq!(record(&mut buffer[..14], 9, 2, &[1, 0, 1]), Err(Refusal(1)));
+    assert_eq!(record(&mut buffer, 9, 2, &[2, 1]), Ok(14));
+    assert_eq!(buffer[9..], [2, 2, 0, 2, 1, 1, 0, 0, 3, 4, 0xaa]);
+    assert_eq!(record(&mut buffer, 14, 2, &[1, 3]), Err(Refusal(16)));
+    assert_eq!(record(&mut buffer, 9, 2, &[1, 7, 2, 1]), Ok(16));
+    assert_eq!(buffer[9..], [2, 4, 0, 1, 7, 2, 1, 0, 3, 4, 0xaa]);
+    assert_eq!(record(&mut buffer[..15], 9, 2, &[1, 7, 2, 1]), Err(Refusal(1)));
 }
 
 #[test]
@@ -259,7 +298,7 @@ fn lent_buffers_come_first() {
 
 /// A schedule that hands a copy on and writes it back after each store: two steps for each of 128 stores.
 fn longest(store: Event) -> (Log, Vec<Step>) {
-    let log = Log { machines: 2, persistent: 3, homes: vec![zeroed(2)], events: vec![store; 128] };
+    let log = Log { machines: 2, persistent: 3, homes: vec![plain(3, 2, 0)], events: vec![store; 128] };
     let both = |before| [1, 0].map(|machine| Step { before, location: 0, machine });
     (log, (1..=128).flat_map(both).collect())
 }

@@ -2,7 +2,7 @@
 
 use corpus::encode::field;
 use corpus::marked::{marked_logs, patterns};
-use corpus::{crash, encode, power_on, set_crash, zeroed, Random};
+use corpus::{crash, encode, plain, power_on, set_crash, Random};
 use second::{judge, read, replay, whole, Event, Home, Log, Operation, Replayed, Step, System, Verdict};
 
 fn event(operation: Operation, machine: u8, location: u8, value: u16) -> Event {
@@ -19,7 +19,7 @@ fn store(location: u8, value: u16) -> Event {
 
 /// Three machines, and locations by owner and initial value.
 fn log(persistent: u8, homes: &[(u8, u16)], events: &[Event]) -> Log {
-    let homes = homes.iter().map(|&(owner, initial)| Home { owner, initial }).collect();
+    let homes = homes.iter().map(|&(owner, initial)| plain(persistent, owner, initial)).collect();
     Log { machines: 3, persistent, homes, events: events.to_vec() }
 }
 
@@ -63,12 +63,12 @@ fn the_low_byte_comes_first() {
         let payload = [1, bytes[0], bytes[1]];
         let bytes = [field(1, &[3, 0]), field(2, &payload), field(4, &[])].concat();
         let log = read(&bytes).unwrap();
-        assert_eq!(log.homes, [Home { owner: 1, initial: value }]);
+        assert_eq!(log.homes, [plain(0, 1, value)]);
         assert_eq!(encode(&log), bytes);
         assert_eq!(loadable(&log, 0), [value]);
     }
     let short = [field(1, &[3, 0]), field(2, &[1]), field(4, &[])].concat();
-    assert_eq!(read(&short).unwrap().homes, [zeroed(1)]);
+    assert_eq!(read(&short).unwrap().homes, [plain(0, 1, 0)]);
     assert_eq!(loadable(&read(&short).unwrap(), 0), [0]);
 }
 
@@ -156,7 +156,7 @@ fn one_location_at_a_time_is_the_whole_system() {
         let log = power_on(&mut random);
         let first = first_impossible(&log);
         impossible += usize::from(first.is_some());
-        let homes = log.homes.iter().map(|home| zeroed(home.owner)).collect();
+        let homes = log.homes.iter().map(|home| Home { initial: 0, ..*home }).collect();
         other += usize::from(first_impossible(&Log { homes, ..log }) != first);
     }
     assert!((900..2400).contains(&impossible), "{impossible} of 3000 impossible");

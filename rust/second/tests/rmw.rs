@@ -1,6 +1,6 @@
 //! Read-modify-writes: each is a load and a store with no silent step between.
 
-use corpus::{encode, zeroed};
+use corpus::{encode, plain};
 use second::{judge, read, replay, whole, Event, Log, Operation, Replayed, Step, Verdict};
 
 const FORMS: [Operation; 3] = [Operation::LRmw, Operation::RRmw, Operation::MRmw];
@@ -23,7 +23,7 @@ fn crash(machine: u8) -> Event {
 
 /// Three persistent machines and one location of machine 2.
 fn log(events: &[Event]) -> Log {
-    Log { machines: 3, persistent: 7, homes: vec![zeroed(2)], events: events.to_vec() }
+    Log { machines: 3, persistent: 7, homes: vec![plain(7, 2, 0)], events: events.to_vec() }
 }
 
 /// The first impossible event, by both searches.

@@ -11,6 +11,7 @@ fn small(random: &mut Random) -> Shape {
         crashes: 25,
         set_crashes: 40,
         patterns: 50,
+        kinds: 40,
         values: 3,
         operations: some_operations(random, 50),
     }

@@ -1,6 +1,6 @@
 //! Set crashes: several machines lose their caches, and volatile owners their memory, in one step.
 
-use corpus::{crash, encode, marked::apart_and_together, power_loss, random_log, set_crash, zeroed, Random, Shape};
+use corpus::{crash, encode, marked::apart_and_together, plain, power_loss, random_log, set_crash, Random, Shape};
 use second::{judge, read, replay, whole, Event, Log, Operation, Refusal, Replayed, Step, Verdict};
 
 fn event(operation: Operation, machine: u8, value: u16) -> Event {
@@ -12,7 +12,7 @@ fn load(machine: u8, value: u16) -> Event {
 }
 
 fn log(persistent: u8, owner: u8, events: &[Event]) -> Log {
-    Log { machines: 3, persistent, homes: vec![zeroed(owner)], events: events.to_vec() }
+    Log { machines: 3, persistent, homes: vec![plain(persistent, owner, 0)], events: events.to_vec() }
 }
 
 /// The first impossible event, by both searches.
@@ -113,6 +113,7 @@ fn small(random: &mut Random) -> Shape {
         crashes: 30,
         set_crashes: 70,
         patterns: 30,
+        kinds: 30,
         values: 2,
         operations: corpus::some_operations(random, 30),
     }
