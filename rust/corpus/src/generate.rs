@@ -1,8 +1,9 @@
 //! Random logs and schedules.
 
 use second::log::{EVENTS_MOST, LOCATIONS_MOST};
-use second::{Event, Home, Log, Operation, Step, System};
+use second::{Event, Home, Kind, Log, Operation, Step, System};
 
+use crate::encode::kind_of;
 use crate::Random;
 
 /// How a random log looks.
@@ -20,6 +21,8 @@ pub struct Shape {
     pub set_crashes: usize,
     /// So many of a hundred locations have an initial value other than 0.
     pub patterns: usize,
+    /// So many of a hundred locations are in memory of the kind that their owner's is not.
+    pub kinds: usize,
     /// Values are below this, which is at least 2; now and then an initial value is above.
     pub values: usize,
     /// What happens beside crashes, each as often as it stands here.
@@ -96,6 +99,7 @@ impl Shape {
             crashes: *random.pick(&[0, 5, 15, 30, 70]),
             set_crashes: *random.pick(&[0, 30, 60]),
             patterns: *random.pick(&[0, 40, 100]),
+            kinds: *random.pick(&[0, 30, 60]),
             values: *random.pick(&[2, 3, 5, 65536]),
             operations: some_operations(random, 70),
         }
@@ -105,20 +109,25 @@ impl Shape {
     fn head(&self, random: &mut Random) -> Log {
         let all = (1 << self.machines) - 1;
         let some = random.byte() & all;
+        let persistent = *random.pick(&[all, 0, some]);
         Log {
             machines: self.machines as u8,
-            persistent: *random.pick(&[all, 0, some]),
-            homes: (0..self.locations).map(|_| self.home(random)).collect(),
+            persistent,
+            homes: (0..self.locations).map(|_| self.home(random, persistent)).collect(),
             events: Vec::with_capacity(self.events),
         }
     }
 
-    /// A location. As with set crashes, a shape without patterns takes no random number for them.
-    fn home(&self, random: &mut Random) -> Home {
+    /// A location. As with set crashes, a shape without patterns or kinds takes no random number for them.
+    fn home(&self, random: &mut Random, persistent: u8) -> Home {
         let owner = random.between(1, self.machines) as u8;
-        match self.patterns > 0 && random.percent(self.patterns) {
-            true => Home { owner, initial: pattern(random, self.values) },
-            false => zeroed(owner),
+        let initial = match self.patterns > 0 && random.percent(self.patterns) {
+            true => pattern(random, self.values),
+            false => 0,
+        };
+        match self.kinds > 0 && random.percent(self.kinds) {
+            true => other_part(persistent, owner, initial),
+            false => plain(persistent, owner, initial),
         }
     }
 
@@ -151,9 +160,22 @@ impl Shape {
     }
 }
 
-/// A location of this machine whose memory starts as zero.
-pub fn zeroed(owner: u8) -> Home {
-    Home { owner, initial: 0 }
+/// A location of this machine, in memory of the machine's own kind.
+pub fn plain(persistent: u8, owner: u8, initial: u16) -> Home {
+    Home { owner, initial, kind: kind_of(persistent, owner) }
+}
+
+/// A location of this machine, in memory of the other kind.
+pub fn other_part(persistent: u8, owner: u8, initial: u16) -> Home {
+    Home { kind: other(kind_of(persistent, owner)), ..plain(persistent, owner, initial) }
+}
+
+/// The other kind of memory.
+pub fn other(kind: Kind) -> Kind {
+    match kind {
+        Kind::Volatile => Kind::Persistent,
+        Kind::Persistent => Kind::Volatile,
+    }
 }
 
 /// An initial value other than 0: one of the values, or a high byte alone, or the largest, or any.
@@ -171,20 +193,30 @@ fn near_pattern(random: &mut Random, initial: u16) -> u16 {
     *random.pick(&[initial, initial, 0, initial.swap_bytes()])
 }
 
-/// The payload of a location's field for so many machines: right, or at the edge of what is right in some of its bytes.
-pub fn near_home(random: &mut Random, machines: u8) -> Vec<u8> {
+/// The payload of a location's field for so many machines, some of them persistent: right, or at the edge of what is
+/// right in some of its bytes.
+pub fn near_home(random: &mut Random, machines: u8, persistent: u8) -> Vec<u8> {
     let owner = match random.below(8) {
         0 => 0,
         1 => machines + 1,
         _ => random.between(1, machines.into()) as u8,
     };
     let mut payload = vec![owner];
-    if random.percent(70) {
-        let initial = if random.percent(40) { 0 } else { pattern(random, 3) };
+    if random.percent(60) {
+        let initial = if random.percent(30) { 0 } else { pattern(random, 3) };
         payload.extend(initial.to_le_bytes());
     }
+    if random.percent(60) {
+        let usual = kind_of(persistent, owner);
+        payload.push(match random.below(8) {
+            0 | 1 => usual.code(),
+            2 => *random.pick(&[0, 3, 0xff]),
+            3 => random.byte(),
+            _ => other(usual).code(),
+        });
+    }
     match random.below(10) {
-        0 => payload.push(random.below(2) as u8),
+        0 => payload.push(random.below(3) as u8),
         1 => drop(payload.pop()),
         _ => {}
     }
@@ -287,6 +319,7 @@ pub fn litmus(random: &mut Random) -> Log {
         crashes: 25,
         set_crashes: 40,
         patterns: *random.pick(&[0, 60]),
+        kinds: *random.pick(&[0, 40]),
         values: 3,
         operations: some_operations(random, 20),
     };
@@ -320,6 +353,7 @@ pub fn power_loss(random: &mut Random) -> Log {
         crashes: 25,
         set_crashes: 50,
         patterns: *random.pick(&[0, 60]),
+        kinds: *random.pick(&[0, 40]),
         values: 3,
         operations: some_operations(random, 20),
     };
@@ -361,6 +395,7 @@ pub fn power_on(random: &mut Random) -> Log {
         crashes: 25,
         set_crashes: 40,
         patterns: 80,
+        kinds: *random.pick(&[0, 40]),
         values: 3,
         operations: some_operations(random, 60),
     };
@@ -384,6 +419,43 @@ pub fn power_on(random: &mut Random) -> Log {
         let another = random.pick(&log.homes).initial;
         let read = *random.pick(&[own, own, own, another, value, 0, own.swap_bytes()]);
         log.events.push(event(Operation::Load, machine(random), location, read));
+    }
+    log
+}
+
+/// A log like a litmus test for kinds of memory: after a short run a value is stored, most often to memory, at each of a
+/// few locations, many of one owner and in both kinds of its memory; the owner of one crashes, alone or with others; and
+/// then some are loaded, most often what their own kind leaves, else the value, the initial one or 0.
+pub fn two_kinds(random: &mut Random) -> Log {
+    let shape = Shape {
+        machines: random.between(1, 3),
+        locations: random.between(2, 4),
+        events: random.below(4),
+        crashes: 25,
+        set_crashes: 40,
+        patterns: *random.pick(&[0, 60]),
+        kinds: 50,
+        values: 3,
+        operations: some_operations(random, 60),
+    };
+    let mut log = plausible(random, &shape);
+    let value = shape.values as u16;
+    let machine = |random: &mut Random| random.between(1, shape.machines) as u8;
+    let event = |operation, machine, location, value| Event { operation, machine, location, value, written: 0 };
+    let stores = [Operation::MStore, Operation::MStore, Operation::MStore, Operation::LStore, Operation::RStore];
+    for location in 0..log.homes.len() as u8 {
+        log.events.push(event(*random.pick(&stores), machine(random), location, value));
+    }
+    let owner = random.pick(&log.homes).owner;
+    let fall = shape.crash(random, owner);
+    log.events.push(fall);
+    for (location, home) in (0..).zip(&log.homes) {
+        let cleared = home.kind == Kind::Volatile && fall.crashed() & 1 << (home.owner - 1) != 0;
+        let left = if cleared { home.initial } else { value };
+        let read = if random.percent(55) { left } else { *random.pick(&[value, home.initial, 0]) };
+        if random.percent(75) {
+            log.events.push(event(Operation::Load, machine(random), location, read));
+        }
     }
     log
 }

@@ -7,5 +7,6 @@ mod random;
 
 pub use encode::encode;
 pub use generate::{change_one_load, damage, litmus, plausible, random_log, random_schedule, some_operations};
-pub use generate::{crash, near_home, near_set_crash, power_loss, power_on, set_crash, zeroed, Shape, MIXED};
+pub use generate::{crash, near_home, near_set_crash, other, other_part, plain, power_loss, power_on, set_crash};
+pub use generate::{two_kinds, Shape, MIXED};
 pub use random::Random;

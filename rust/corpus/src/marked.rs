@@ -1,8 +1,8 @@
-//! The fourteen marked logs of the specification, and those of requests W-202 and W-203.
+//! The fourteen marked logs of the specification, and those of requests W-202, W-203 and W-206.
 
 use second::{Event, Home, Log, Operation, Operation::*};
 
-use crate::zeroed;
+use crate::{other_part, plain};
 
 /// A marked log: what it is, its records, and its first impossible event or nothing if it is allowed.
 pub struct Marked {
@@ -23,7 +23,17 @@ fn marked(
     events: &[(Operation, u8, u8, u16)],
     impossible: Option<u8>,
 ) -> Marked {
-    filled(name, persistent, owners.iter().map(|&owner| zeroed(owner)).collect(), events, impossible)
+    let homes = owners.iter().map(|&owner| plain(all(persistent), owner, 0)).collect();
+    filled(name, persistent, homes, events, impossible)
+}
+
+/// All three machines, or none.
+fn all(persistent: bool) -> u8 {
+    if persistent {
+        0b111
+    } else {
+        0
+    }
 }
 
 fn filled(
@@ -40,11 +50,7 @@ fn filled(
         value,
         written: 0,
     });
-    Marked {
-        name,
-        log: Log { machines: 3, persistent: if persistent { 0b111 } else { 0 }, homes, events: events.collect() },
-        impossible,
-    }
+    Marked { name, log: Log { machines: 3, persistent: all(persistent), homes, events: events.collect() }, impossible }
 }
 
 /// The fourteen, in their order.
@@ -99,21 +105,41 @@ pub fn marked_logs() -> Vec<Marked> {
 
 /// Memories that are filled with a pattern at power-on: 7 at L0 of machine 2; 7 at L0 of 1 and 9 at L1 of 2.
 pub fn patterns() -> [Marked; 7] {
-    let one = || vec![Home { owner: 2, initial: 7 }];
-    let two = || vec![Home { owner: 1, initial: 7 }, Home { owner: 2, initial: 9 }];
+    let one = |persistent| vec![plain(all(persistent), 2, 7)];
+    let two = || vec![plain(0, 1, 7), plain(0, 2, 9)];
     let load = |value| (Load, 1, 0, value);
     let crashed = |value| [(MStore, 1, 0, 1), (Crash, 2, 0, 0), load(value)];
     let stores = [(MStore, 3, 0, 1), (MStore, 3, 1, 1), (SetCrash, 0, 0b011, 0)];
     let together = |value| [&stores[..], &[(Load, 3, 0, 7), (Load, 3, 1, value)]].concat();
     [
-        filled("the pattern is read back", true, one(), &[load(7)], None),
-        filled("nothing but the pattern is there", true, one(), &[load(0)], Some(1)),
-        filled("volatile memory returns to the pattern", false, one(), &crashed(7), None),
-        filled("volatile memory does not return to 0", false, one(), &crashed(0), Some(3)),
-        filled("persistent memory does not return to the pattern", true, one(), &crashed(7), Some(3)),
+        filled("the pattern is read back", true, one(true), &[load(7)], None),
+        filled("nothing but the pattern is there", true, one(true), &[load(0)], Some(1)),
+        filled("volatile memory returns to the pattern", false, one(false), &crashed(7), None),
+        filled("volatile memory does not return to 0", false, one(false), &crashed(0), Some(3)),
+        filled("persistent memory does not return to the pattern", true, one(true), &crashed(7), Some(3)),
         filled("each location returns to its own pattern", false, two(), &together(9), None),
         filled("no location returns to another's pattern", false, two(), &together(7), Some(5)),
     ]
+}
+
+/// Machine 2 has a journal, L0, in persistent memory and an index, L1, in volatile memory, which wakes up as 7: the
+/// machines are persistent and the index is in the other part, or they are volatile and the journal is.
+pub fn journal_and_index() -> Vec<Marked> {
+    let mut logs = Vec::new();
+    for persistent in [true, false] {
+        let part = |other: bool| if other { other_part } else { plain };
+        let homes = || vec![part(!persistent)(all(persistent), 2, 0), part(persistent)(all(persistent), 2, 7)];
+        for crash in [(Crash, 2, 0, 0), (SetCrash, 0, 0b011, 0)] {
+            let before = [(MStore, 1, 0, 1), (MStore, 1, 1, 1), crash];
+            let read = |loads: &[_]| [&before[..], loads].concat();
+            let (kept, lost, index) = ((Load, 1, 0, 1), (Load, 1, 0, 0), |value| (Load, 1, 1, value));
+            let with = |name, loads: &[_], impossible| filled(name, persistent, homes(), &read(loads), impossible);
+            logs.push(with("the journal is kept and the index returns", &[kept, index(7)], None));
+            logs.push(with("the journal is not lost", &[lost], Some(4)));
+            logs.push(with("the index is not kept", &[kept, index(1)], Some(5)));
+        }
+    }
+    logs
 }
 
 /// What machine 2 stored is read after it and the owner, with volatile memory, lost their power: one after the other, and
