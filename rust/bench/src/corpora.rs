@@ -38,6 +38,7 @@ impl Corpus {
             crashes: self.crashes,
             set_crashes: 0,
             patterns: 0,
+            kinds: 0,
             values: 1000,
             operations: MIXED,
         };

@@ -1,8 +1,8 @@
 //! The kinds of logs, each from a seed of its own.
 
 use corpus::encode::{field, home_payload};
-use corpus::{change_one_load, crash, damage, encode, litmus, near_home, near_set_crash, plausible};
-use corpus::{power_loss, power_on, random_log, set_crash, zeroed, Random, Shape};
+use corpus::{change_one_load, crash, damage, encode, litmus, near_home, near_set_crash, other_part, plain, plausible};
+use corpus::{power_loss, power_on, random_log, set_crash, two_kinds, Random, Shape};
 use second::{Event, Home, Log, Operation};
 
 use crate::report::Report;
@@ -11,21 +11,22 @@ use crate::trial;
 /// A kind of logs, how many there are in one round, and how one is made.
 type Kind = (&'static str, usize, fn(&mut Random) -> Vec<u8>);
 
-const KINDS: [Kind; 8] = [
-    ("1 plausible, by simulating the system", 50_000, simulated),
-    ("2 plausible with one load changed", 60_000, changed),
-    ("3 random", 50_000, any),
-    ("4 near the limits", 24_000, limit),
-    ("5 bytes damaged at random", 50_000, damaged),
-    ("6 like litmus tests, the last read of any value", 150_000, |random| encode(&litmus(random))),
-    ("7 like litmus tests, the holders crash with the owner", 50_000, |random| encode(&power_loss(random))),
-    ("8 like litmus tests, memories return to their initial values", 40_000, |random| encode(&power_on(random))),
+const KINDS: [Kind; 9] = [
+    ("01 plausible, by simulating the system", 50_000, simulated),
+    ("02 plausible with one load changed", 60_000, changed),
+    ("03 random", 50_000, any),
+    ("04 near the limits", 24_000, limit),
+    ("05 bytes damaged at random", 50_000, damaged),
+    ("06 like litmus tests, the last read of any value", 150_000, |random| encode(&litmus(random))),
+    ("07 like litmus tests, the holders crash with the owner", 50_000, |random| encode(&power_loss(random))),
+    ("08 like litmus tests, memories return to their initial values", 40_000, |random| encode(&power_on(random))),
+    ("09 like litmus tests, owners have both kinds of memory", 40_000, |random| encode(&two_kinds(random))),
 ];
 
-const SMALL: &str = "9 every log of three events or fewer, two machines, one location, two values";
+const SMALL: &str = "10 every log of three events or fewer, two machines, one location, two values";
 
-/// At least so many accepted logs of each kind have a read-modify-write, at least so many a set crash, and at least so
-/// many an initial value: what is not made is not compared.
+/// At least so many accepted logs of each kind have a read-modify-write, at least so many a set crash, at least so many
+/// an initial value, and at least so many a kind byte: what is not made is not compared.
 const LEAST: usize = 1000;
 
 /// Compares all logs of each kind; each round takes other seeds. The small logs are not random and come once.
@@ -89,7 +90,7 @@ fn limit(random: &mut Random) -> Vec<u8> {
             if random.percent(20) {
                 // No accepted log has more bytes than these.
                 let operations = &[Operation::LRmw, Operation::RRmw, Operation::MRmw];
-                shape = Shape { locations: 32, patterns: 100, crashes: 0, operations, ..shape };
+                shape = Shape { locations: 32, patterns: 100, kinds: 100, crashes: 0, operations, ..shape };
             }
             let mut log = plausible(random, &shape);
             let rmw = Event { operation: Operation::LRmw, ..crash(1) };
@@ -101,13 +102,15 @@ fn limit(random: &mut Random) -> Vec<u8> {
             shape.locations = 32;
             shape.events = shape.events.min(20);
             let mut log = plausible(random, &shape);
-            log.homes.extend(vec![Home { owner: 1, initial: *random.pick(&[0, 256]) }; random.below(3)]);
+            let more = some_home(random, log.persistent, 1, &[0, 256]);
+            log.homes.extend(vec![more; random.below(3)]);
             encode(&log)
         }
         2 => {
             let (machines, persistent) = (random.below(9) as u8, random.byte() >> random.below(9).min(7));
             let event = if random.percent(50) { crash(1) } else { set_crash(random.byte() >> random.below(7)) };
-            let home = Home { owner: random.below(8) as u8, initial: *random.pick(&[0, 1]) };
+            let owner = random.below(8) as u8;
+            let home = some_home(random, persistent, owner, &[0, 1]);
             encode(&Log { machines, persistent, homes: vec![home], events: vec![event] })
         }
         3 => cornered(random, &shape),
@@ -126,13 +129,19 @@ fn limit(random: &mut Random) -> Vec<u8> {
     }
 }
 
+/// A location of this machine with one of these initial values, of either kind.
+fn some_home(random: &mut Random, persistent: u8, owner: u8, initial: &[u16]) -> Home {
+    let part = *random.pick(&[plain, other_part]);
+    part(persistent, owner, *random.pick(initial))
+}
+
 /// One more location whose bytes are at the edge of what the head allows; now and then the log stops inside them.
 fn cornered_home(random: &mut Random, shape: &Shape) -> Vec<u8> {
     let locations = if random.percent(10) { 32 } else { shape.locations };
     let log = plausible(random, &Shape { locations, ..*shape });
     let bytes = encode(&log);
-    let at = 5 + log.homes.iter().map(|home| 3 + home_payload(home).len()).sum::<usize>();
-    let home = field(2, &near_home(random, log.machines));
+    let at = 5 + log.homes.iter().map(|home| 3 + home_payload(log.persistent, home).len()).sum::<usize>();
+    let home = field(2, &near_home(random, log.machines, log.persistent));
     if random.percent(15) {
         return [&bytes[..at], &home[..random.below(home.len())]].concat();
     }
@@ -170,7 +179,7 @@ fn cornered(random: &mut Random, shape: &Shape) -> Vec<u8> {
 fn long_schedule(random: &mut Random) -> Vec<u8> {
     let machines = random.between(2, 6) as u8;
     let rmws = *random.pick(&[0, 50, 100]);
-    let home = Home { owner: 1, initial: *random.pick(&[0, 0x107]) };
+    let home = some_home(random, 0, 1, &[0, 0x107]);
     let mut log = Log { machines, persistent: 0, homes: vec![home], events: Vec::new() };
     let mut last = home.initial;
     while log.events.len() < 124 {
@@ -194,7 +203,7 @@ fn long_schedule(random: &mut Random) -> Vec<u8> {
     encode(&log)
 }
 
-/// A field whose length is one off, or whose high byte is set, or a location or an event with the length of its other
+/// A field whose length is one off, or whose high byte is set, or a location or an event with the length of another
 /// form, or an event with the tag of the other kind.
 fn wrong_length(random: &mut Random, shape: &Shape) -> Vec<u8> {
     let mut bytes = encode(&plausible(random, shape));
@@ -205,19 +214,22 @@ fn wrong_length(random: &mut Random, shape: &Shape) -> Vec<u8> {
         at += 3 + usize::from(bytes[at + 1]);
     }
     let at = *random.pick(&ends);
-    match random.below(5) {
+    match random.below(6) {
         0 => bytes[at + 1] ^= 1,
         1 => bytes[at + 2] = 1,
         // Of a location's 1 this makes 3, of an event's 5 a 7, and the other way round.
         2 => bytes[at + 1] ^= 2,
-        3 => bytes[at] ^= 3 ^ 5,
+        // Of a location's 2 this makes 4, and the other way round.
+        3 => bytes[at + 1] ^= 6,
+        4 => bytes[at] ^= 3 ^ 5,
         _ => bytes[at + 1] = bytes[at + 1].wrapping_sub(1),
     }
     bytes
 }
 
 /// Every log of at most three events with values 0 and 1, on one location of two machines; and, of those without
-/// read-modify-writes, the same with the initial value 1, where the owner alone is persistent and where the other is.
+/// read-modify-writes, the same with the initial value 1, of the owner's kind and of the other, and with the other kind
+/// alone, where the owner alone is persistent and where the other is.
 fn small(mut compare: impl FnMut(&[u8])) {
     let mut events = vec![crash(1), crash(2), set_crash(0b11)];
     for operation in Operation::ALL.into_iter().filter(|operation| !operation.is_crash()) {
@@ -233,11 +245,13 @@ fn small(mut compare: impl FnMut(&[u8])) {
         rows(events, |row| compare(&encode(&Log { machines: 2, persistent, homes: vec![home], events: row.to_vec() })))
     };
     for persistent in 0..4 {
-        each(persistent, zeroed(1), &events);
+        each(persistent, plain(persistent, 1, 0), &events);
     }
     events.retain(|event| !event.operation.is_rmw());
     for persistent in [0b01, 0b10] {
-        each(persistent, Home { owner: 1, initial: 1 }, &events);
+        for home in [plain(persistent, 1, 1), other_part(persistent, 1, 1), other_part(persistent, 1, 0)] {
+            each(persistent, home, &events);
+        }
     }
 }
 

@@ -55,8 +55,8 @@ fn some_field(random: &mut Random) -> (u8, Vec<u8>) {
     let mut payload = match tag {
         1 => vec![small(random, 7), small(random, 63)],
         2 => {
-            let machines = random.between(1, 6) as u8;
-            near_home(random, machines)
+            let (machines, persistent) = (random.between(1, 6) as u8, *random.pick(&[0, 0x3f]));
+            near_home(random, machines, persistent)
         }
         3 if random.percent(20) => {
             let machines = random.between(1, 6) as u8;

@@ -20,6 +20,8 @@ pub struct Verdicts {
     pub with_set_crash: usize,
     /// Accepted logs that have an initial value.
     pub with_initial: usize,
+    /// Accepted logs that have a kind byte.
+    pub with_kind: usize,
 }
 
 /// Counts of all that was compared.
@@ -49,16 +51,17 @@ impl Report {
         }
     }
 
-    /// Notes each kind with fewer accepted logs than this that have a read-modify-write, a set crash or an initial value.
-    /// A comparison that stopped has not made all.
+    /// Notes each kind with fewer accepted logs than this that have a read-modify-write, a set crash, an initial value or
+    /// a kind byte. A comparison that stopped has not made all.
     pub fn ask_made(&mut self, least: usize) {
         if self.is_hopeless() {
             return;
         }
-        let few = |made: &Verdicts| made.with_rmw.min(made.with_set_crash).min(made.with_initial) < least;
+        let made = |kind: &Verdicts| [kind.with_rmw, kind.with_set_crash, kind.with_initial, kind.with_kind];
+        let few = |verdicts: &Verdicts| made(verdicts).into_iter().any(|count| count < least);
         let kinds: Vec<_> = self.kinds.iter().filter(|(_, verdicts)| few(verdicts)).map(|(&kind, _)| kind).collect();
         for kind in kinds {
-            self.differ("too few with read-modify-writes, set crashes or initial values", &[], kind);
+            self.differ("too few with read-modify-writes, set crashes, initial values or kind bytes", &[], kind);
         }
     }
 
@@ -76,13 +79,13 @@ impl Report {
 
     pub fn print(&self) {
         for (kind, verdicts) in &self.kinds {
-            let Verdicts { allowed, impossible, refused, with_rmw, with_set_crash, with_initial } = verdicts;
+            let Verdicts { allowed, impossible, refused, with_rmw, with_set_crash, with_initial, with_kind } = verdicts;
             let turned_away: usize = refused.values().sum();
             println!("{kind}: {} logs", allowed + impossible + turned_away);
             println!("    {allowed} allowed, {impossible} impossible, {turned_away} refused{}", numbers(refused));
             println!(
                 "    {with_rmw} of the accepted with read-modify-writes, {with_set_crash} with set crashes, \
-                 {with_initial} with initial values"
+                 {with_initial} with initial values, {with_kind} with kind bytes"
             );
         }
         println!(

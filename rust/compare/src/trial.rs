@@ -1,7 +1,7 @@
 //! One log through every call on both sides.
 
 use corpus::Random;
-use second::{read_schedule, replay, verdict_file, Log, Operation, Refusal, Replayed, Step, Verdict};
+use second::{read_schedule, replay, verdict_file, Home, Log, Operation, Refusal, Replayed, Step, Verdict};
 use second::{FILE_MOST, SCRATCH_LEAST, STEPS_MOST};
 
 use crate::report::{hex, Report, Verdicts};
@@ -111,7 +111,9 @@ fn judged(
     let any = |is: fn(Operation) -> bool| usize::from(records.events.iter().any(|event| is(event.operation)));
     verdicts.with_rmw += any(Operation::is_rmw);
     verdicts.with_set_crash += any(|operation| operation == Operation::SetCrash);
-    verdicts.with_initial += usize::from(records.homes.iter().any(|home| home.initial != 0));
+    let some = |is: &dyn Fn(&Home) -> bool| usize::from(records.homes.iter().any(is));
+    verdicts.with_initial += some(&|home| home.initial != 0);
+    verdicts.with_kind += some(&|home| home.kind != records.kind_of(home.owner));
     let verdict = second::judge(records);
     match &verdict {
         Verdict::Impossible(event) => {
