@@ -31,7 +31,7 @@ pub mod schedule;
 
 pub use calls::{judge_into, read, record, replay, Counts, Judged, Replayed, FILE_MOST, SCRATCH_LEAST};
 pub use judging::{Judge, Verdict};
-pub use log::{Event, Home, Log, Operation};
+pub use log::{Event, Home, Kind, Log, Operation};
 pub use machine_set::MachineSet;
 pub use recorder::Recorder;
 pub use refusal::Refusal;

@@ -30,15 +30,17 @@ pub enum Refusal {
     TrailingBytes,
     /// The verdict file is no schedule for this log.
     BadSchedule,
-    /// The initial value 0 in the long form of a location's field; the short form says it.
+    /// The initial value 0 in a location's field that has bytes for it; the form without says it.
     BadInitialValue,
     /// A set crash of fewer than two machines, or of one that is outside 1 to the machine count.
     BadMachineSet,
+    /// A kind byte other than the kind that the owner's memory is not.
+    BadKind,
 }
 
 impl Refusal {
     /// All refusals, by rising number.
-    pub const ALL: [Refusal; 15] = [
+    pub const ALL: [Refusal; 16] = [
         Refusal::BufferTooShort,
         Refusal::Truncated,
         Refusal::UnexpectedTag,
@@ -54,6 +56,7 @@ impl Refusal {
         Refusal::BadSchedule,
         Refusal::BadInitialValue,
         Refusal::BadMachineSet,
+        Refusal::BadKind,
     ];
 
     /// The number of the specification.
@@ -82,8 +85,9 @@ impl Refusal {
             Refusal::ReservedNotZero => "a byte that the operation does not use is not 0",
             Refusal::TrailingBytes => "something stands after the end field",
             Refusal::BadSchedule => "the verdict file does not say allowed, or does not fit this log",
-            Refusal::BadInitialValue => "an initial value of 0 must have the short form, of length 1",
+            Refusal::BadInitialValue => "an initial value of 0 has no bytes: the length must be 1, or 2 with a kind",
             Refusal::BadMachineSet => "fewer than two machines crash together, or one that is not there",
+            Refusal::BadKind => "the kind byte is not 1 where the owner is persistent, or not 2 where it is volatile",
         }
     }
 }

@@ -342,6 +342,144 @@ fn what_is_not_the_initial_value_is_explained() {
 }
 
 #[test]
+fn kinds_are_written_down() {
+    let folder = folder("kinds-unchecked");
+    let text = folder.join("a.txt");
+    let assembled = |lines: &str| {
+        fs::write(&text, format!("unchecked\n{lines}\n")).unwrap();
+        let output = tool(&["asm", text.to_str().unwrap()]);
+        assert_eq!(status(&output), 0, "{lines}");
+        output.stdout
+    };
+    // The row has a kind byte where the kind is not the owner's, and only there.
+    for (persistent, volatile, persistent_row) in [
+        ("all", &[2, 2, 0, 2, 1][..], &[2, 1, 0, 2][..]),
+        ("2", &[2, 2, 0, 2, 1], &[2, 1, 0, 2]),
+        ("none", &[2, 1, 0, 2], &[2, 2, 0, 2, 2]),
+        ("1", &[2, 1, 0, 2], &[2, 2, 0, 2, 2]),
+    ] {
+        let row = |line: &str| assembled(&format!("machines 2 persistent {persistent}\n{line}"))[5..].to_vec();
+        for line in ["L0 of 2 volatile", "L0 2 volatile", "l0 of 2, volatile", "L0 of 2 initially 0 volatile"] {
+            assert_eq!(row(line), volatile, "{persistent}: {line}");
+        }
+        for line in ["L0 of 2 persistent", "L0 of 2 initially 0 persistent"] {
+            assert_eq!(row(line), persistent_row, "{persistent}: {line}");
+        }
+        // The initial value comes first.
+        let with_initial = |row: &[u8]| [&[2, row[1] + 2, 0, 2, 2, 1], &row[4..]].concat();
+        assert_eq!(row("L0 of 2 initially 258 volatile"), with_initial(volatile), "{persistent}");
+        assert_eq!(row("L0 of 2 initially 0x102 persistent"), with_initial(persistent_row), "{persistent}");
+    }
+    // Nobody is persistent until a line says so, and no machine that a set has no bit for.
+    assert_eq!(assembled("L0 of 1 volatile\nL1 of 1 persistent"), [2, 1, 0, 1, 2, 2, 0, 1, 2]);
+    assert_eq!(assembled("machines 2 persistent all\nL0 of 9 persistent")[5..], [2, 2, 0, 9, 2]);
+    // A kind byte that is refused.
+    assert_eq!(assembled("bytes 02 02 00 02 03"), [2, 2, 0, 2, 3]);
+}
+
+#[test]
+fn kinds_are_shown_explained_and_drawn() {
+    let folder = folder("kinds");
+    let [text, log, again] = ["a.txt", "a.log", "again.txt"].map(|name| folder.join(name));
+    let [text, log, again] = [&text, &log, &again].map(|path| path.to_str().unwrap());
+    let assemble = |events: &str| {
+        let rows = "L0 of 1\nL1 of 1 volatile\nL2 of 1 initially 7 volatile\nL3 of 2 persistent\nL4 of 2 volatile";
+        fs::write(text, format!("machines 3 persistent 1\n{rows}\n{events}\n")).unwrap();
+        assert_eq!(status(&tool(&["asm", text, "-o", log])), 0, "{events}");
+        fs::read(log).unwrap()
+    };
+    let print = |words: &[&str]| String::from_utf8(tool(words).stdout).unwrap();
+    let stores: Vec<String> = (0..5).map(|x| format!("MStore by 3 to L{x} of 1")).collect();
+    let stores = stores.join("\n");
+    let bytes = assemble(&format!("{stores}\nCrash of 1\nLoad by 3 of L0, 1\nLoad by 3 of L1, 0\nLoad by 3 of L2, 7"));
+    assert_eq!(bytes[5..30], [2, 1, 0, 1, 2, 2, 0, 1, 1, 2, 4, 0, 1, 7, 0, 1, 2, 2, 0, 2, 2, 2, 1, 0, 2]);
+    assert_eq!(status(&tool(&["judge", log])), 0);
+    assert_eq!(status(&tool(&["show", log, "-o", again])), 0);
+    // The kind is named where it is not the owner's.
+    let shown = fs::read_to_string(again).unwrap();
+    let rows = "\nL0 of 1\nL1 of 1 volatile\nL2 of 1 initially 7 volatile\nL3 of 2 persistent\nL4 of 2\n\n";
+    assert!(shown.starts_with("machines 3 persistent 1\n") && shown.contains(rows), "{shown}");
+    assert_eq!(tool(&["asm", again]).stdout, bytes);
+    let explained = print(&["explain", log]);
+    let run: Vec<&str> = explained.lines().skip(2).collect();
+    let power_on = "L1: no cache holds it, memory 0, volatile; L2: no cache holds it, memory 7, volatile; \
+                    L3: no cache holds it, memory 0, persistent";
+    assert!(run[0].contains("at power-on") && run[0].ends_with(&format!("  {power_on}")), "{explained}");
+    let lost = "  L1: no cache holds it, memory 0; L2: no cache holds it, memory 7";
+    assert!(run[6].contains("Crash of 1 ") && run[6].ends_with(lost), "{explained}");
+    let memory = |location: &str| {
+        let svg = print(&["draw", log, "--location", location]);
+        let bars = svg.lines().filter(|line| line.starts_with("<rect class=\"memory\""));
+        let value = |bar: &str| bar.rsplit_once("</text>").unwrap().0.rsplit_once('>').unwrap().1.to_string();
+        let title = svg.lines().find(|line| line.contains("class=\"title\"")).unwrap();
+        (bars.map(value).collect::<Vec<_>>().join(" "), value(title))
+    };
+    for (location, bars, title) in [
+        ("L0", "0 1", "L0, in the persistent memory of 1"),
+        ("L1", "0 1 0", "L1, in the volatile part of the memory of 1"),
+        ("L2", "7 1 7", "L2, in the volatile part of the memory of 1, initially 7"),
+        ("L3", "0 1", "L3, in the persistent part of the memory of 2"),
+        ("L4", "0 1", "L4, in the volatile memory of 2"),
+    ] {
+        assert_eq!(memory(location), (bars.to_string(), title.to_string()));
+    }
+    // In a set crash each machine loses what it has in volatile memory.
+    assemble(&format!("{stores}\nCrash of 1, 2\nLoad by 3 of L3, 1\nLoad by 3 of L4, 0"));
+    assert_eq!(status(&tool(&["judge", log])), 0);
+    let explained = print(&["explain", log]);
+    let words = "  1 loses L1, L2 from its memory; 2 loses L4 from its memory; L1: no cache holds it, memory 0; \
+                 L2: no cache holds it, memory 7; L4: no cache holds it, memory 0";
+    assert!(explained.lines().any(|line| line.ends_with(words)), "{explained}");
+    assert_eq!((memory("L3").0.as_str(), memory("L4").0.as_str()), ("0 1", "0 1 0"));
+}
+
+#[test]
+fn what_the_kind_does_not_leave_is_explained() {
+    let folder = folder("kinds-impossible");
+    let [text, log] = ["a.txt", "a.log"].map(|name| folder.join(name));
+    let [text, log] = [&text, &log].map(|path| path.to_str().unwrap());
+    let explained = |head: &str, value: u16| {
+        let events = format!("MStore by 1 to L0 of 1\nCrash of 2\nLoad by 1 of L0, {value}");
+        fs::write(text, format!("machines 2 persistent {head}\n{events}\n")).unwrap();
+        assert_eq!(status(&tool(&["asm", text, "-o", log])), 0, "{head}");
+        let output = tool(&["explain", log]);
+        assert_eq!((status(&output), status(&tool(&["draw", log]))), (1, 0), "{head}");
+        String::from_utf8(output.stdout).unwrap()
+    };
+    let kept = explained("none\nL0 of 2 persistent", 0);
+    assert!(kept.contains("a load by 1 of L0 can return 1, not 0.\n"), "{kept}");
+    assert!(kept.contains("All that concerns L0, in the persistent part of the memory of 2:\n"), "{kept}");
+    let lost = explained("all\nL0 of 2 initially 7 volatile", 1);
+    assert!(lost.contains("a load by 1 of L0 can return 7, not 1.\n"), "{lost}");
+    assert!(lost.contains("left out, it could return 1:\n   2  Crash of 2\n"), "{lost}");
+    assert!(lost.contains("All that concerns L0, in the volatile part of the memory of 2, initially 7:\n"), "{lost}");
+}
+
+/// A kind byte that is refused is refused at its field.
+#[test]
+fn bad_kinds_are_refused() {
+    let folder = folder("kinds-refused");
+    let [text, log] = ["a.txt", "a.log"].map(|name| folder.join(name));
+    let [text, log] = [&text, &log].map(|path| path.to_str().unwrap());
+    for (persistent, bad) in [("all", "02"), ("all", "00"), ("none", "01"), ("none", "03"), ("2", "02"), ("2", "ff")] {
+        for row in ["02 02 00 02", "02 04 00 02 07 00"] {
+            let lines = format!("machines 2 persistent {persistent}\nL0 of 1\nbytes {row} {bad}\nend");
+            fs::write(text, format!("unchecked\n{lines}\n")).unwrap();
+            assert_eq!(status(&tool(&["asm", text, "-o", log])), 0, "{lines}");
+            let judged = tool(&["judge", log]);
+            assert_eq!(
+                (status(&judged), String::from_utf8(judged.stdout).unwrap()),
+                (1, format!("{log}: number 16 BadKind\n"))
+            );
+            let shown = tool(&["show", log]);
+            let errors = String::from_utf8_lossy(&shown.stderr).into_owned();
+            assert_eq!(status(&shown), 2, "{lines}");
+            assert!(errors.contains(": field 3, at byte 9: number 16 (BadKind): "), "{lines}: {errors}");
+        }
+    }
+}
+
+#[test]
 fn folders_and_json() {
     let root = Path::new(env!("CARGO_MANIFEST_DIR")).join("../../examples/marked");
     let judged = tool(&["judge", "--json", root.to_str().unwrap()]);
@@ -355,6 +493,8 @@ fn folders_and_json() {
     assert_eq!(summary, "5 allowed, 9 impossible, 0 refused, 0 could not be read\n");
 }
 
+const NO_LOCATION: &str = ":2: a location is 'L0 of 2', 'L0 of 2 initially 7', or either with its kind at the end";
+
 #[test]
 fn errors_have_status_2_and_say_what_is_wrong() {
     let folder = folder("errors");
@@ -367,10 +507,20 @@ fn errors_have_status_2_and_say_what_is_wrong() {
         ("machines 2 persistent all\nL0 of 3", ":2: number 6 (BadOwner)"),
         ("machines 2 persistent all\nL0 of 3 initially 7", ":2: number 6 (BadOwner)"),
         ("machines 2 persistent all\nL0 of 1 initially 65536", "'65536' is no number that fits"),
-        ("machines 2 persistent all\nL0 of 1 initially", ":2: a location is 'L0 of 2', or 'L0 of 2 initially 7'"),
-        ("machines 2 persistent all\nL0 of 1 7", ":2: a location is 'L0 of 2', or 'L0 of 2 initially 7'"),
-        ("machines 2 persistent all\nL0 of 1 finally 7", ":2: a location is 'L0 of 2', or 'L0 of 2 initially 7'"),
-        ("machines 2 persistent all\nL0 of 1 initially 7 8", ":2: a location is 'L0 of 2', or 'L0 of 2 initially 7'"),
+        ("machines 2 persistent all\nL0 of 1 initially", NO_LOCATION),
+        ("machines 2 persistent all\nL0 of 1 7", NO_LOCATION),
+        ("machines 2 persistent all\nL0 of 1 finally 7", NO_LOCATION),
+        ("machines 2 persistent all\nL0 of 1 initially 7 8", NO_LOCATION),
+        ("machines 2 persistent all\nL0 of 1 volatile initially 7", NO_LOCATION),
+        ("machines 2 persistent all\nL0 of 1 volatile volatile", NO_LOCATION),
+        ("machines 2 persistent all\nL0 of 1 persistent volatile", NO_LOCATION),
+        ("machines 2 persistent all\nL0 of 1 7 volatile", NO_LOCATION),
+        ("machines 2 persistent all\nL0 of 1 initially volatile", NO_LOCATION),
+        ("machines 2 persistent all\nL0 volatile", NO_LOCATION),
+        ("machines 2 persistent all\nL0 of 1 kind 1", NO_LOCATION),
+        ("machines 2 persistent all\nL0 of 3 volatile", ":2: number 6 (BadOwner)"),
+        ("machines 2 persistent all\nL0 of 3 initially 7 persistent", ":2: number 6 (BadOwner)"),
+        ("machines 2 persistent all\nL0 of persistent", NO_LOCATION),
         ("machines 7 persistent none", ":1: number 5 (BadTopology)"),
         ("machines 2 persistent all\n\nCrash of 3", ":3: number 9 (NoSuchMachine)"),
         ("machines 2 persistent all\nL0 of 1\nLoad by 1 of L0", ":3: this line should look like 'Load by 1 of L0, 1'"),
@@ -428,7 +578,7 @@ fn no_bytes_make_it_panic() {
     let (log, file) = (folder.join("a.log"), folder.join("a.verdict"));
     let mut random = Random::new(6);
     for round in 0..120 {
-        let shape = Shape { crashes: 20, set_crashes: 50, patterns: 50, ..Shape::random(&mut random) };
+        let shape = Shape { crashes: 20, set_crashes: 50, patterns: 50, kinds: 50, ..Shape::random(&mut random) };
         let bytes = match round % 4 {
             0 => {
                 let length = random.below(300);
@@ -478,6 +628,7 @@ fn no_text_makes_it_panic() {
         "L1",
         "L255",
         "initially",
+        "volatile",
         "L",
         "of",
         "by",

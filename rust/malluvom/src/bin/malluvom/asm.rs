@@ -3,7 +3,7 @@
 use std::ffi::OsString;
 use std::path::Path;
 
-use malluvom::{Recorder, Schedule, Step};
+use malluvom::{Home, Kind, Recorder, Schedule, Step};
 
 use crate::failure::Failure;
 use crate::files;
@@ -52,6 +52,7 @@ pub fn assemble(text: &str, path: &Path) -> Result<Assembled, Failure> {
     let mut assembly = Assembly {
         sink: Sink::Checked(Box::new(Recorder::empty())),
         fields: 0,
+        persistent: 0,
         locations: 0,
         events: 0,
         schedule: Schedule::default(),
@@ -70,6 +71,8 @@ pub fn assemble(text: &str, path: &Path) -> Result<Assembled, Failure> {
 struct Assembly {
     sink: Sink,
     fields: usize,
+    /// The machines that are persistent by the last `machines` line.
+    persistent: u8,
     locations: usize,
     events: usize,
     schedule: Schedule,
@@ -83,13 +86,17 @@ impl Assembly {
                 Ok(())
             }
             Line::Unchecked => Err("'unchecked' must come before all fields".into()),
-            Line::Machines { count, persistent } => self.field(0x01, &[count, persistent]),
-            Line::Location { number, home } => {
+            Line::Machines { count, persistent } => {
+                self.persistent = persistent;
+                self.field(0x01, &[count, persistent])
+            }
+            Line::Location { number, owner, initial, kind } => {
                 if usize::from(number) != self.locations {
                     return Err(format!("the next location is L{}", self.locations));
                 }
                 self.locations += 1;
-                self.field(0x02, &home.payload())
+                let kind = kind.unwrap_or_else(|| Kind::of_machine(owner, self.persistent));
+                self.field(0x02, &Home { owner, initial, kind }.payload(self.persistent))
             }
             Line::Event(event) => {
                 self.events += 1;

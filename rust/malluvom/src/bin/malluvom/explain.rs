@@ -4,7 +4,7 @@ use std::collections::BTreeSet;
 use std::ffi::OsString;
 use std::fmt::Write;
 
-use malluvom::{Event, Judge, Log, Operation, Schedule, Verdict};
+use malluvom::{Event, Judge, Kind, Log, Operation, Schedule, Verdict};
 
 use crate::failure::Failure;
 use crate::files;
@@ -39,14 +39,16 @@ fn allowed(log: &Log, schedule: &Schedule) -> String {
     format!("allowed: {events} and {steps} make this run\n\n{}", run(log, schedule))
 }
 
-/// A run, line by line, with what changes. It begins with what is in memory at power-on, where that is not 0.
+/// A run, line by line, with what changes. It begins with what is in memory at power-on, where that is not 0 or where the
+/// memory is not of its owner's kind, which is then named.
 fn run(log: &Log, schedule: &Schedule) -> String {
     let mut text = String::new();
     let mut held: Vec<Held> = (0..log.homes.len()).map(|x| Held::at_power_on(log, x as u8)).collect();
-    let patterns = held.iter().enumerate().filter(|(_, held)| held.memory != 0);
-    let patterns: Vec<String> = patterns.map(|(x, held)| format!("L{x}: {}", held.words())).collect();
-    if !patterns.is_empty() {
-        line(&mut text, "", "at power-on", &patterns);
+    let named = (0..).zip(&held).filter(|(x, held)| held.memory != 0 || log.differs(*x));
+    let kind = |x| if log.differs(x) { format!(", {}", log.kind(x)) } else { String::new() };
+    let named: Vec<String> = named.map(|(x, held)| format!("L{x}: {}{}", held.words(), kind(x))).collect();
+    if !named.is_empty() {
+        line(&mut text, "", "at power-on", &named);
     }
     for action in actions(log, schedule) {
         let mut changes = match &action {
@@ -81,7 +83,7 @@ fn losses(log: &Log, held: &[Held], crash: &Event) -> Vec<String> {
     };
     let loses = |machine: u8| {
         let copies = listed(&|_, held| held.by(machine));
-        let forgets = |x| log.owner(x) == machine && !log.is_persistent(machine);
+        let forgets = |x| log.owner(x) == machine && log.kind(x) == Kind::Volatile;
         let memory = listed(&|x, held| forgets(x) && held.memory != log.initial(x));
         match (copies.as_str(), memory.as_str()) {
             ("", "") => format!("{machine} loses nothing"),

@@ -9,7 +9,7 @@ use malluvom::{log, read, Log, Refusal};
 
 use crate::failure::Failure;
 
-/// No answer of the library depends on more bytes of a log or of a verdict file: 1,480 and 1,544 are the most that are
+/// No answer of the library depends on more bytes of a log or of a verdict file: 1,512 and 1,544 are the most that are
 /// accepted, and what stands after them only makes the refusal sure.
 const BYTES_MOST: u64 = 65_536;
 

@@ -1,7 +1,7 @@
 //! A run for showing: the events of a log with the silent steps of a schedule that replay said yes to, and what one
 //! location holds after each. It judges nothing.
 
-use malluvom::{Event, Log, MachineSet, Operation, Schedule, Step};
+use malluvom::{Event, Kind, Log, MachineSet, Operation, Schedule, Step};
 
 /// Something that happens.
 #[derive(Clone, Copy)]
@@ -79,7 +79,7 @@ impl Held {
                     Operation::LFlush | Operation::RFlush => self,
                     Operation::Crash | Operation::SetCrash => {
                         let crashed = event.crashed();
-                        let forgotten = crashed.contains(owner) && !log.is_persistent(owner);
+                        let forgotten = crashed.contains(owner) && log.kind(location) == Kind::Volatile;
                         let memory = if forgotten { log.initial(location) } else { memory };
                         Held { sharers: sharers & !crashed.bits(), copy, memory }
                     }
@@ -97,15 +97,15 @@ impl Held {
     }
 }
 
-/// Where a location lives, in words.
+/// Where a location lives, in words. What differs from the rest of its owner's memory is called a part.
 pub fn place(log: &Log, location: u8) -> String {
-    let owner = log.owner(location);
-    let kind = if log.is_persistent(owner) { "persistent" } else { "volatile" };
+    let (kind, owner) = (log.kind(location), log.owner(location));
+    let part = if log.differs(location) { "part of the " } else { "" };
     let initially = match log.initial(location) {
         0 => String::new(),
         initial => format!(", initially {initial}"),
     };
-    format!("L{location}, in the {kind} memory of {owner}{initially}")
+    format!("L{location}, in the {kind} {part}memory of {owner}{initially}")
 }
 
 /// What the caches of a set of machines do, in words, or nothing if there is none.

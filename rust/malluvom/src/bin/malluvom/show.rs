@@ -85,7 +85,14 @@ fn head(log: &Log) -> String {
     }
     head.push('\n');
     for (number, home) in log.homes.iter().enumerate() {
-        let _ = writeln!(head, "L{number} of {home}");
+        let _ = write!(head, "L{number} of {}", home.owner);
+        if home.initial != 0 {
+            let _ = write!(head, " initially {}", home.initial);
+        }
+        if home.differs(log.persistent) {
+            let _ = write!(head, " {}", home.kind);
+        }
+        head.push('\n');
     }
     head.push('\n');
     head

@@ -1,12 +1,12 @@
 //! The lines of the text form, which docs/TEXT-FORM.md describes.
 
-use malluvom::{Event, Home, MachineSet, Operation};
+use malluvom::{Event, Kind, MachineSet, Operation};
 
 /// One line of a text.
 pub enum Line {
     Unchecked,
     Machines { count: u8, persistent: u8 },
-    Location { number: u8, home: Home },
+    Location { number: u8, owner: u8, initial: u16, kind: Option<Kind> },
     Event(Event),
     Silent { location: u8, machine: u8 },
     Bytes(Vec<u8>),
@@ -41,7 +41,7 @@ pub fn parse(line: &str) -> Result<Option<Line>, String> {
         name => match Operation::ALL.iter().find(|operation| operation.to_string().eq_ignore_ascii_case(name)) {
             Some(&operation) => Line::Event(event(operation, rest)?),
             None => match location_number(first) {
-                Ok(number) => Line::Location { number, home: home(rest)? },
+                Ok(number) => location(number, rest)?,
                 Err(_) => return Err(format!("'{first}' begins no line of the text form")),
             },
         },
@@ -76,12 +76,19 @@ fn machines(rest: &[&str]) -> Result<Line, String> {
     Ok(Line::Machines { count, persistent })
 }
 
-fn home(rest: &[&str]) -> Result<Home, String> {
-    match rest {
-        [owner] => Ok(Home { owner: number(owner)?, initial: 0 }),
-        [owner, "initially", initial] => Ok(Home { owner: number(owner)?, initial: number(initial)? }),
-        _ => Err("a location is 'L0 of 2', or 'L0 of 2 initially 7'".into()),
-    }
+/// A location. If its kind is left out, it is that of the owner, which another line says.
+fn location(location: u8, rest: &[&str]) -> Result<Line, String> {
+    let (rest, kind) = match rest {
+        [rest @ .., "volatile"] => (rest, Some(Kind::Volatile)),
+        [rest @ .., "persistent"] => (rest, Some(Kind::Persistent)),
+        _ => (rest, None),
+    };
+    let (owner, initial) = match rest {
+        [owner] => (number(owner)?, 0),
+        [owner, "initially", initial] => (number(owner)?, number(initial)?),
+        _ => return Err("a location is 'L0 of 2', 'L0 of 2 initially 7', or either with its kind at the end".into()),
+    };
+    Ok(Line::Location { number: location, owner, initial, kind })
 }
 
 fn event(operation: Operation, rest: &[&str]) -> Result<Event, String> {
