@@ -30,7 +30,8 @@ enum cxl0_refusal {
     CXL0_TRAILING_BYTES = 12,
     CXL0_BAD_SCHEDULE = 13,
     CXL0_BAD_INITIAL_VALUE = 14,
-    CXL0_BAD_MACHINE_SET = 15
+    CXL0_BAD_MACHINE_SET = 15,
+    CXL0_BAD_KIND = 16
 };
 
 /* A verdict file has at most so many bytes, which the output must have after the offset. */
@@ -38,13 +39,14 @@ enum cxl0_refusal {
 /* The scratch must have at least so many 64-bit numbers. */
 #define CXL0_SCRATCH_LEAST 4096
 /* An accepted log has at most so many bytes. */
-#define CXL0_LOG_MOST 1480
+#define CXL0_LOG_MOST 1512
 
 /* Puts one field after the first `used` bytes of `buf`; no other byte changes. Bits 8 to 39: the new count of used
- * bytes. docs/FORMAT.md has the payload of each tag. That of a location, tag 2, is its owner and, unless it is 0, the
- * initial value of its memory, low byte first: {2, 7, 0} is machine 2's and starts as 7. That of a set crash, tag 3, is
- * operation 11, a machine byte 0, the set of two machines or more, with bit i - 1 for machine i, and a value of 0:
- * {11, 0, 3, 0, 0} crashes machines 1 and 2 in one step. */
+ * bytes. docs/FORMAT.md has the payload of each tag. That of a location, tag 2, is its owner; unless it is 0, the
+ * initial value of its memory, low byte first; and unless it is the owner's, the kind of its memory, 1 volatile or 2
+ * persistent: {2, 7, 0, 1} is in the volatile part of the memory of machine 2, which is persistent, and starts as 7.
+ * That of a set crash, tag 3, is operation 11, a machine byte 0, the set of two machines or more, with bit i - 1 for
+ * machine i, and a value of 0: {11, 0, 3, 0, 0} crashes machines 1 and 2 in one step. */
 uint64_t cxl0_record(uint8_t *buf, size_t buf_len, size_t used, uint8_t tag, const uint8_t *payload,
                      size_t payload_len);
 

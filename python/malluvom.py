@@ -17,7 +17,7 @@ from typing import NamedTuple, Optional, Tuple
 
 FILE_MOST = 1544
 SCRATCH_LEAST = 4096
-LOG_MOST = 1480
+LOG_MOST = 1512
 
 REFUSALS = {
     1: "BufferTooShort",
@@ -35,6 +35,7 @@ REFUSALS = {
     13: "BadSchedule",
     14: "BadInitialValue",
     15: "BadMachineSet",
+    16: "BadKind",
 }
 
 

@@ -118,8 +118,7 @@ class Calls(unittest.TestCase):
             (6, b"\x03\0\0"),
             (6, b"\0\x07\0"),
             (4, b""),
-            (4, b"\x02\x07"),
-            (4, b"\x02\x07\0\0"),
+            (4, b"\x02\x07\0\x02\0"),
         ):
             self.refused(number, malluvom.record, buffer, used, 2, payload)
         # L0 is 2's and starts as 256; MStore by 1 to L0 of 5, and 2 crashes.
@@ -141,8 +140,41 @@ class Calls(unittest.TestCase):
             end = malluvom.record(log, end, 4, b"")
             self.assertEqual(answer(bytes(log[:end])), expected)
 
+    def test_kind(self):
+        buffer = bytearray(malluvom.LOG_MOST)
+        # Two machines, of which 1 is persistent.
+        head = malluvom.record(buffer, 0, 1, b"\x02\x01")
+        for owner, other in (1, 1), (2, 2):
+            for kind in set(range(256)) - {other}:
+                for initial in b"", b"\x07\0":
+                    self.refused(16, malluvom.record, buffer, head, 2, bytes([owner]) + initial + bytes([kind]))
+        for number, payload in (
+            (14, b"\x01\0\0\x01"),
+            (14, b"\x02\0\0\0"),
+            (6, b"\x03\0\0\0"),
+            (6, b"\0\x01"),
+        ):
+            self.refused(number, malluvom.record, buffer, head, 2, payload)
+        # L0 and L1 are 1's, L2 and L3 are 2's; L1 and L2 are in the other kind of memory, and L1 starts as 256.
+        used = head
+        for payload in b"\x01", b"\x01\0\x01\x01", b"\x02\x02", b"\x02":
+            used = malluvom.record(buffer, used, 2, payload)
+        self.assertEqual(bytes(buffer[5:used]), bytes.fromhex("02010001 02040001000101 0202000202 02010002"))
+        for location in range(4):
+            used = malluvom.record(buffer, used, 3, bytes([3, 1, location, 5, 0]))
+        for crash, lost in (b"\x07\x01\0\0\0", (1,)), (b"\x07\x02\0\0\0", (3,)), (b"\x0b\0\x03\0\0", (1, 3)):
+            crashed = malluvom.record(buffer, used, 3, crash)
+            for location, initial in enumerate((0, 256, 0, 0)):
+                for value in 5, initial:
+                    log = bytearray(buffer)
+                    payload = bytes([4, 1, location]) + value.to_bytes(2, "little")
+                    end = malluvom.record(log, crashed, 3, payload)
+                    end = malluvom.record(log, end, 4, b"")
+                    possible = (value == initial) == (location in lost)
+                    self.assertEqual(answer(bytes(log[:end])), "allowed 0" if possible else "impossible 6")
+
     def test_the_longest_log(self):
-        log = bytes.fromhex("0102000600") + bytes.fromhex("020300060100") * 32
+        log = bytes.fromhex("0102000600") + bytes.fromhex("02040006010002") * 32
         log += bytes.fromhex("0507000901000000 0000") * 128 + bytes.fromhex("040000")
         self.assertEqual(len(log), malluvom.LOG_MOST)
         self.assertEqual(malluvom.read(log), malluvom.Counts(machines=6, locations=32, events=128))
@@ -165,9 +197,9 @@ class Calls(unittest.TestCase):
         self.assertFalse(any(scratch))
 
     def test_names(self):
-        names = [malluvom.Refused(number).name for number in (1, 13, 14, 15)]
-        self.assertEqual(names, ["BufferTooShort", "BadSchedule", "BadInitialValue", "BadMachineSet"])
-        self.assertEqual(sorted(malluvom.REFUSALS), list(range(1, 16)))
+        names = [malluvom.Refused(number).name for number in (1, 13, 14, 15, 16)]
+        self.assertEqual(names, ["BufferTooShort", "BadSchedule", "BadInitialValue", "BadMachineSet", "BadKind"])
+        self.assertEqual(sorted(malluvom.REFUSALS), list(range(1, 17)))
 
 
 def load_tests(loader, tests, pattern):
