@@ -34,7 +34,7 @@ pub enum Refusal {
     BadInitialValue,
     /// A set crash of fewer than two machines, or of one that is outside 1 to the machine count.
     BadMachineSet,
-    /// A kind byte other than the kind that the owner's memory is not.
+    /// A kind byte other than the one that differs from the owner's.
     BadKind,
 }
 

@@ -35,7 +35,7 @@ impl Refusal {
     pub const BAD_INITIAL_VALUE: Refusal = Refusal(14);
     /// A set crash of fewer than two machines, or of one that is none of the system.
     pub const BAD_MACHINE_SET: Refusal = Refusal(15);
-    /// A kind byte that is not the kind that the owner's memory is not.
+    /// A kind byte other than the one that differs from the owner's.
     pub const BAD_KIND: Refusal = Refusal(16);
 }
 
