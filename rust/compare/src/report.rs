@@ -51,8 +51,8 @@ impl Report {
         }
     }
 
-    /// Notes each kind with fewer accepted logs than this that have a read-modify-write, a set crash, an initial value or
-    /// a kind byte. A comparison that stopped has not made all.
+    /// Notes each kind with fewer accepted logs than this that have a read-modify-write, a set crash, an initial value
+    /// or a kind byte. A comparison that stopped has not made all.
     pub fn ask_made(&mut self, least: usize) {
         if self.is_hopeless() {
             return;

@@ -423,9 +423,9 @@ pub fn power_on(random: &mut Random) -> Log {
     log
 }
 
-/// A log like a litmus test for kinds of memory: after a short run a value is stored, most often to memory, at each of a
-/// few locations, many of one owner and in both kinds of its memory; the owner of one crashes, alone or with others; and
-/// then some are loaded, most often what their own kind leaves, else the value, the initial one or 0.
+/// A log like a litmus test for kinds of memory: after a short run a value is stored, most often to memory, at each of
+/// a few locations, many of one owner and in both kinds of its memory; the owner of one crashes, alone or with others;
+/// and then some are loaded, most often what their own kind leaves, else the value, the initial one or 0.
 pub fn two_kinds(random: &mut Random) -> Log {
     let shape = Shape {
         machines: random.between(1, 3),

@@ -11,8 +11,8 @@ pub struct Recorder {
 }
 
 impl Recorder {
-    /// A log of a system with so many machines; bit i - 1 of `persistent` is set if machine i's memory is persistent, but
-    /// for locations of the other kind.
+    /// A log of a system with so many machines; bit i - 1 of `persistent` is set if machine i's memory is persistent,
+    /// but for locations of the other kind.
     pub fn new(machines: u8, persistent: u8) -> Result<Recorder, Refusal> {
         let mut recorder = Recorder::empty();
         recorder.field(0x01, &[machines, persistent])?;
@@ -29,8 +29,8 @@ impl Recorder {
         self.location_initially(owner, 0)
     }
 
-    /// The next location, in the memory of this machine, of the machine's kind, which holds the initial value at power-on
-    /// and, if it is volatile, again after a crash.
+    /// The next location, in the memory of this machine, of the machine's kind, which holds the initial value at
+    /// power-on and, if it is volatile, again after a crash.
     pub fn location_initially(&mut self, owner: u8, initial: u16) -> Result<(), Refusal> {
         self.home(Home { owner, initial, kind: Kind::of_machine(owner, self.persistent()) })
     }

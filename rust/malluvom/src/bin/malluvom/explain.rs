@@ -39,8 +39,8 @@ fn allowed(log: &Log, schedule: &Schedule) -> String {
     format!("allowed: {events} and {steps} make this run\n\n{}", run(log, schedule))
 }
 
-/// A run, line by line, with what changes. It begins with what is in memory at power-on, where that is not 0 or where the
-/// memory is not of its owner's kind, which is then named.
+/// A run, line by line, with what changes. It begins with what is in memory at power-on, where that is not 0 or where
+/// the memory is not of its owner's kind, which is then named.
 fn run(log: &Log, schedule: &Schedule) -> String {
     let mut text = String::new();
     let mut held: Vec<Held> = (0..log.homes.len()).map(|x| Held::at_power_on(log, x as u8)).collect();
