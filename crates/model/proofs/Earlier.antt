@@ -1,5 +1,5 @@
--- Of a system in which every location is of its owner's kind, and its initial value is `first`, `Cxl0` says what `Earlier`
--- says of it: the start is the same, every action leaves the same state, and so the same lists are runs.
+-- Of a system in which every location is of its owner's kind and starts with what `first` says, `Cxl0` says what
+-- `Earlier` says of it: the start is the same, every action leaves the same state, and so the same lists are runs.
 use Prim.Native.Nat.{ℕ}
 use mathlib.Core.Path.{_≡_, refl, ap, _∙_}
 use mathlib.Core.Logic.{_↔_}
@@ -31,7 +31,8 @@ module _ (sys : Topology) (first : Location → Value)
       (crashed sys e s .memory y)
   unfolding clears
   same-memory e s y =
-      rw (← wakes y, ← kinds y) (same-cleared (crashes e (owner sys y)) (isPersistent sys y) (initial sys y) (s .memory y))
+      let crash = crashes e (owner sys y) in
+      rw (← wakes y, ← kinds y) (same-cleared crash (isPersistent sys y) (initial sys y) (s .memory y))
 
   same-crash : (e : Event) (s : State)
       → crashed sys e s

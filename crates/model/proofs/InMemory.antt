@@ -7,8 +7,8 @@ use mathlib.Core.Bool.{Bool, true, false, cond, not, _&&_, and-false}
 use mathlib.Core.List.{List, [], _∷_, _++_}
 use mathlib.Core.Option.{Option, none}
 use lib.Dec.{T, T-not, eqb, eqb→eq}
-use Rattle.model.specs.Cxl0.{Machine, Location, Value, Topology, isMachine, isLocation, owner}
-use Rattle.model.specs.Cxl0.{isPersistent, WellFormed, State, holds, someMachine, cached, crashes, clears, crashed}
+use Rattle.model.specs.Cxl0.{Machine, Location, Value, Topology, isMachine, isLocation, owner, isPersistent}
+use Rattle.model.specs.Cxl0.{WellFormed, State, holds, someMachine, cached, crashes, clears, crashed}
 use Rattle.model.specs.Cxl0.{LStore, RStore, MStore, Load, LFlush, RFlush, Crash, SetCrash}
 use Rattle.model.specs.Cxl0.{RMW, Form, L, R, M}
 use Rattle.model.specs.Cxl0.{Propagate, WriteBack, stored}

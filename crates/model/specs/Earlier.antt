@@ -1,6 +1,6 @@
--- CXL0 before requests W-206 and W-202. Before W-206 what a crash clears goes by the owner's kind. What memories hold at
--- the start, and what is cleared returns to, is `first`: the initial values, or before W-202 zero, as document 01 has
--- it. Each definition stands for the one of `Cxl0` with its name. The theorems compare the two.
+-- CXL0 before requests W-206 and W-202. Before W-206 what a crash clears goes by the owner's kind. What memories hold
+-- at the start, and what is cleared returns to, is `first`: the initial values or, before W-202, zero, as document 01
+-- has it. Each definition stands for the one of `Cxl0` with its name. The theorems compare the two.
 use Prim.Native.Nat.{ℕ, _≤_, _<_}
 use mathlib.Core.Path.{_≡_}
 use mathlib.Core.Bool.{Bool, true, cond, _&&_}

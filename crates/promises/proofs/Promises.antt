@@ -169,7 +169,7 @@ module _ (s f : List ℕ) (a : Replayed) (replayed : replay.answerOf a ≡ repla
       ↔ ((r : Records) × (ps : List Step) × Admitted s f r ps × Run (systemOf r) (weave (r .events) ps))
   replay-yes = rw replayed (Demand2.yes-exactly s f)
 
-  -- Where no row of a location has a kind byte, these are the runs of before W-206: a crash asks each owner for its kind.
+  -- Where no row of a location has a kind byte, these are the runs of before W-206: a crash asks the owner's kind.
   pub replay-yes-no-kinds : (r : Records) → readLog s ≡ accepted r → NoKindBytes r
       → (replay.answerOf a ≡ replaying.Answer.yes)
       ↔ ((ps : List Step) × Admitted s f r ps
@@ -217,7 +217,7 @@ module _ (s out : List ℕ) (offset : ℕ) (scratch : List ℕ) (j : Judged) (ou
       ↔ (¬ HasRun (systemOf r) (take e (r .events)) × HasRun (systemOf r) (take (e - 1) (r .events)))
   impossible-exactly = Judgements.impossible-exactly s out offset scratch j out' scratch' judged fit r read
 
-  -- A log without kind bytes is judged as it was before W-206: a crash asks each owner for its kind.
+  -- A log without kind bytes is judged as it was before W-206: a crash asks the owner's kind.
   module _ (none : NoKindBytes r) where
     pub allowed-exactly-no-kinds : ((steps len : ℕ) × (answerOf j ≡ gives 1 0 steps len))
         ↔ earlier.HasRun (systemOf r) (initial (systemOf r)) (r .events)

@@ -13,7 +13,8 @@ use Rattle.model.proofs.Home.keeps.Tie as tie
 
 -- The code's test is the owner's kind.
 owners : (c : tie.After-bit)
-    → let a = c .before .args in not (eqb (bitAnd (a .persistent) (c .bit .result)) 0) ≡ has (a .self .owner .0) (a .persistent)
+    → let a = c .before .args in
+    not (eqb (bitAnd (a .persistent) (c .bit .result)) 0) ≡ has (a .self .owner .0) (a .persistent)
 owners c =
     let a = c .before .args in
     has-byte (a .self .owner .0) (a .persistent) (c .bit .result) (c .bit .ensures) (omega arith)
