@@ -9,7 +9,8 @@ use mathlib.Core.Option.{some}
 use lib.Dec.{T}
 use lib.ListN.{length, take}
 use Rattle.model.specs.Cxl0.{Machine, Location, Value, MachineSet, Topology, WellFormed, isLocation, owner}
-use Rattle.model.specs.Cxl0.{initial, State, start, everyMachine, cached, Form, Load, RMW, SetCrash, Event, Action, event}
+use Rattle.model.specs.Cxl0.{initial, State, start, everyMachine, cached, Form, Load, RMW, SetCrash}
+use Rattle.model.specs.Cxl0.{Event, Action, event}
 use Rattle.model.specs.Cxl0.{next, named, allNamed, Run, HasRun, FirstImpossible}
 use Rattle.model.specs.Cxl0.{after, events, silents, count, isStore, isLoad}
 use Rattle.model.specs.Schedule.{Step, weave, schedule, inOrder}
