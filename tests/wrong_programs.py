@@ -70,8 +70,9 @@ def check(crate, place):
 
 def unfit(log):
     """The proof file asks for a place that the code no longer has, or the first error is a name that is not there."""
-    first = re.search(r": error: (.*)", log)
-    return "has no `Need" in log or bool(first and re.search(r"has no field|is not in scope", first[1]))
+    # an error goes on over the indented lines under it
+    first = re.search(r": error: .*(?:\n[ \t].*)*", log)
+    return "has no `Need" in log or bool(first and re.search(r"has no field|is not in scope", first[0]))
 
 
 def judged(status, log):
