@@ -12,11 +12,11 @@ use Rattle.model.specs.Cxl0
 use Rattle.model.specs.Cxl0.{Location, Value, Topology, owner, initial, isPersistent, State, Event, Action, event}
 use Rattle.model.specs.Cxl0.{silent, crashes, possible, events}
 
--- The systems that W-206 does not change: every location is of its owner's kind.
+-- Every location is of its owner's kind, as in all systems before W-206.
 abbrev pub OwnersKinds : Topology → Type 0
 OwnersKinds sys = (x : Location) → isPersistent sys x ≡ sys .persistent (owner sys x)
 
--- And those of which document 01 speaks, once their memories start as zero.
+-- Memories start as zero, as in all systems before W-202.
 abbrev pub WakesAsZero : Topology → Type 0
 WakesAsZero sys = (x : Location) → initial sys x ≡ 0
 
