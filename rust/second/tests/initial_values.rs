@@ -1,9 +1,12 @@
 //! Initial values: where runs start, and what a volatile memory returns to when its owner crashes.
 
+mod searches;
+
 use corpus::encode::field;
 use corpus::marked::{marked_logs, patterns};
 use corpus::{crash, encode, plain, power_on, set_crash, Random};
-use second::{judge, read, replay, whole, Event, Home, Log, Operation, Replayed, Step, System, Verdict};
+use searches::first_impossible;
+use second::{read, replay, Event, Home, Log, Operation, Replayed, Step, System};
 
 fn event(operation: Operation, machine: u8, location: u8, value: u16) -> Event {
     Event { operation, machine, location, value, written: 0 }
@@ -21,21 +24,6 @@ fn store(location: u8, value: u16) -> Event {
 fn log(persistent: u8, homes: &[(u8, u16)], events: &[Event]) -> Log {
     let homes = homes.iter().map(|&(owner, initial)| plain(persistent, owner, initial)).collect();
     Log { machines: 3, persistent, homes, events: events.to_vec() }
-}
-
-/// The first impossible event, by both searches.
-fn first_impossible(log: &Log) -> Option<u8> {
-    assert_eq!(read(&encode(log)).as_ref(), Ok(log));
-    let first = match judge(log) {
-        Verdict::Allowed(steps) => {
-            assert_eq!(replay(log, &steps), Replayed::Yes);
-            assert!(steps.len() <= log.steps_most());
-            None
-        }
-        Verdict::Impossible(event) => Some(event),
-    };
-    assert_eq!(first, whole::first_impossible(log), "{log:?}");
-    first
 }
 
 /// The values that the last load of a location can return, of those that a wrong reading might give.

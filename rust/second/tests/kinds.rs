@@ -1,9 +1,12 @@
 //! Kinds of memory: a location may be in memory of the kind that its owner's is not, and a crash asks each for its own.
 
+mod searches;
+
 use corpus::encode::field;
 use corpus::marked::{journal_and_index, marked_logs};
 use corpus::{crash, encode, other, other_part, plain, power_loss, power_on, set_crash, two_kinds, Random};
-use second::{judge, read, replay, whole, Event, Home, Kind, Log, Operation, Refusal, Replayed, Step, Verdict};
+use searches::first_impossible;
+use second::{judge, read, replay, Event, Home, Kind, Log, Operation, Refusal, Replayed, Step};
 
 fn event(operation: Operation, machine: u8, location: u8, value: u16) -> Event {
     Event { operation, machine, location, value, written: 0 }
@@ -15,21 +18,6 @@ fn load(location: u8, value: u16) -> Event {
 
 fn log(persistent: u8, homes: &[Home], events: &[Event]) -> Log {
     Log { machines: 3, persistent, homes: homes.to_vec(), events: events.to_vec() }
-}
-
-/// The first impossible event, by both searches.
-fn first_impossible(log: &Log) -> Option<u8> {
-    assert_eq!(read(&encode(log)).as_ref(), Ok(log));
-    let first = match judge(log) {
-        Verdict::Allowed(steps) => {
-            assert_eq!(replay(log, &steps), Replayed::Yes);
-            assert!(steps.len() <= log.steps_most());
-            None
-        }
-        Verdict::Impossible(event) => Some(event),
-    };
-    assert_eq!(first, whole::first_impossible(log), "{log:?}");
-    first
 }
 
 /// The values that a last load of a location can return.

@@ -1,7 +1,9 @@
 //! Read-modify-writes: each is a load and a store with no silent step between.
 
-use corpus::{encode, plain};
-use second::{judge, read, replay, whole, Event, Log, Operation, Replayed, Step, Verdict};
+mod searches;
+
+use corpus::plain;
+use second::{replay, Event, Log, Operation, Replayed, Step};
 
 const FORMS: [Operation; 3] = [Operation::LRmw, Operation::RRmw, Operation::MRmw];
 
@@ -26,19 +28,9 @@ fn log(events: &[Event]) -> Log {
     Log { machines: 3, persistent: 7, homes: vec![plain(7, 2, 0)], events: events.to_vec() }
 }
 
-/// The first impossible event, by both searches.
+/// The first impossible event of these.
 fn first_impossible(events: &[Event]) -> Option<u8> {
-    let log = log(events);
-    assert_eq!(read(&encode(&log)).as_ref(), Ok(&log));
-    let first = match judge(&log) {
-        Verdict::Allowed(steps) => {
-            assert_eq!(replay(&log, &steps), Replayed::Yes);
-            None
-        }
-        Verdict::Impossible(event) => Some(event),
-    };
-    assert_eq!(first, whole::first_impossible(&log), "{log:?}");
-    first
+    searches::first_impossible(&log(events))
 }
 
 #[test]

@@ -1,7 +1,10 @@
 //! Set crashes: several machines lose their caches, and volatile owners their memory, in one step.
 
+mod searches;
+
 use corpus::{crash, encode, marked::apart_and_together, plain, power_loss, random_log, set_crash, Random, Shape};
-use second::{judge, read, replay, whole, Event, Log, Operation, Refusal, Replayed, Step, Verdict};
+use searches::first_impossible;
+use second::{judge, read, replay, Event, Log, Operation, Refusal, Replayed, Step, Verdict};
 
 fn event(operation: Operation, machine: u8, value: u16) -> Event {
     Event { operation, machine, location: 0, value, written: 0 }
@@ -13,21 +16,6 @@ fn load(machine: u8, value: u16) -> Event {
 
 fn log(persistent: u8, owner: u8, events: &[Event]) -> Log {
     Log { machines: 3, persistent, homes: vec![plain(persistent, owner, 0)], events: events.to_vec() }
-}
-
-/// The first impossible event, by both searches.
-fn first_impossible(log: &Log) -> Option<u8> {
-    assert_eq!(read(&encode(log)).as_ref(), Ok(log));
-    let first = match judge(log) {
-        Verdict::Allowed(steps) => {
-            assert_eq!(replay(log, &steps), Replayed::Yes);
-            assert!(steps.len() <= log.steps_most());
-            None
-        }
-        Verdict::Impossible(event) => Some(event),
-    };
-    assert_eq!(first, whole::first_impossible(log), "{log:?}");
-    first
 }
 
 #[test]
