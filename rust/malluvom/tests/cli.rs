@@ -24,6 +24,72 @@ fn folder(name: &str) -> PathBuf {
     folder
 }
 
+/// What a command prints.
+fn print(words: &[&str]) -> String {
+    String::from_utf8(tool(words).stdout).unwrap()
+}
+
+/// A text and its log, in a folder of their own.
+struct Pair {
+    text: String,
+    log: String,
+}
+
+impl Pair {
+    fn new(name: &str) -> Pair {
+        let folder = folder(name);
+        let [text, log] = ["a.txt", "a.log"].map(|name| folder.join(name).to_str().unwrap().to_string());
+        Pair { text, log }
+    }
+
+    /// The bytes of the text, which are the log from now on.
+    fn assemble(&self, text: &str) -> Vec<u8> {
+        fs::write(&self.text, format!("{text}\n")).unwrap();
+        assert_eq!(status(&tool(&["asm", &self.text, "-o", &self.log])), 0, "{text}");
+        fs::read(&self.log).unwrap()
+    }
+
+    /// The bytes of some lines, whatever they make.
+    fn fields(&self, lines: &str) -> Vec<u8> {
+        self.assemble(&format!("unchecked\n{lines}"))
+    }
+
+    /// The log as text, which gives its bytes again.
+    fn show(&self) -> String {
+        let shown = print(&["show", &self.log]);
+        assert_eq!(fs::read(&self.log).unwrap(), self.assemble(&shown), "{shown}");
+        shown
+    }
+
+    fn explain(&self) -> String {
+        print(&["explain", &self.log])
+    }
+
+    /// The explanation of an impossible log, which can be drawn too.
+    fn why(&self) -> String {
+        let output = tool(&["explain", &self.log]);
+        assert_eq!((status(&output), status(&tool(&["draw", &self.log]))), (1, 0));
+        String::from_utf8(output.stdout).unwrap()
+    }
+
+    fn draw(&self, location: &str) -> String {
+        print(&["draw", &self.log, "--location", location])
+    }
+
+    /// Of the picture of a location: its title, and the values of the memory one after the other.
+    fn memory(&self, location: &str) -> (String, String) {
+        let svg = self.draw(location);
+        let words = |line: &str| line.rsplit_once("</text>").unwrap().0.rsplit_once('>').unwrap().1.to_string();
+        let title = svg.lines().find(|line| line.contains("class=\"title\"")).unwrap();
+        let bars = svg.lines().filter(|line| line.starts_with("<rect class=\"memory\""));
+        (words(title), bars.map(words).collect::<Vec<_>>().join(" "))
+    }
+
+    fn is_allowed(&self) -> bool {
+        status(&tool(&["judge", &self.log])) == 0
+    }
+}
+
 fn examples(extension: &str) -> Vec<PathBuf> {
     let root = Path::new(env!("CARGO_MANIFEST_DIR")).join("../../examples");
     let mut found = Vec::new();
@@ -109,32 +175,23 @@ const RMW_FIELDS: [[u8; 10]; 3] =
 
 #[test]
 fn read_modify_writes_are_written_down() {
-    let folder = folder("rmw-unchecked");
-    let text = folder.join("a.txt");
+    let pair = Pair::new("rmw-unchecked");
     // The words between are for the reader.
     for lines in [RMW_LINES, ["L-RMW 1 L0 1 5", "r-rmw 2 L0 5 6", "m-Rmw 3, L0 6 to 0x2bc"]] {
-        fs::write(&text, format!("unchecked\n{}\n", lines.join("\n"))).unwrap();
-        let assembled = tool(&["asm", text.to_str().unwrap()]);
-        assert_eq!((status(&assembled), assembled.stdout), (0, RMW_FIELDS.concat()));
+        assert_eq!(pair.fields(&lines.join("\n")), RMW_FIELDS.concat());
     }
 }
 
 #[test]
 fn read_modify_writes_are_shown_explained_and_drawn() {
-    let folder = folder("rmw");
-    let [text, log, again] = ["a.txt", "a.log", "again.txt"].map(|name| folder.join(name));
-    let [text, log, again] = [&text, &log, &again].map(|path| path.to_str().unwrap());
+    let pair = Pair::new("rmw");
     let head = "machines 3 persistent all\nL0 of 2\nLStore by 3 to L0 of 1\n";
-    fs::write(text, format!("{head}{}\n", RMW_LINES.join("\n"))).unwrap();
-    assert_eq!(status(&tool(&["asm", text, "-o", log])), 0);
-    let bytes = fs::read(log).unwrap();
+    let bytes = pair.assemble(&format!("{head}{}", RMW_LINES.join("\n")));
     assert_eq!(bytes[17..bytes.len() - 3], RMW_FIELDS.concat());
-    assert_eq!(status(&tool(&["judge", log])), 0);
-    assert_eq!(status(&tool(&["show", log, "-o", again])), 0);
-    let shown = fs::read_to_string(again).unwrap();
+    assert!(pair.is_allowed());
+    let shown = pair.show();
     assert!(RMW_LINES.iter().all(|line| shown.lines().any(|shown| shown.starts_with(line))), "{shown}");
-    assert_eq!(tool(&["asm", again]).stdout, bytes);
-    let explained = String::from_utf8(tool(&["explain", log]).stdout).unwrap();
+    let explained = pair.explain();
     for words in [
         "L0: 1 loaded from a cache, then cache of 1 holds 5, memory 0, cache of 3 loses it",
         "L0: 5 loaded from a cache, then cache of 2 holds 6, memory 0, cache of 1 loses it",
@@ -142,7 +199,7 @@ fn read_modify_writes_are_shown_explained_and_drawn() {
     ] {
         assert!(explained.contains(words), "{explained}");
     }
-    let svg = String::from_utf8(tool(&["draw", log]).stdout).unwrap();
+    let svg = pair.draw("L0");
     for label in ["2: L-RMW 5", "reads 1", "3: R-RMW 6", "reads 5", "4: M-RMW 700", "reads 6"] {
         assert!(svg.contains(&format!(">{label}</text>")), "{label}: {svg}");
     }
@@ -150,16 +207,10 @@ fn read_modify_writes_are_shown_explained_and_drawn() {
 
 #[test]
 fn a_read_modify_write_that_cannot_read_is_explained() {
-    let folder = folder("rmw-impossible");
-    let [text, log] = ["a.txt", "a.log"].map(|name| folder.join(name));
-    let [text, log] = [&text, &log].map(|path| path.to_str().unwrap());
+    let pair = Pair::new("rmw-impossible");
     let explained = |events: &str| {
-        fs::write(text, format!("machines 3 persistent all\nL0 of 2\n{events}\n")).unwrap();
-        assert_eq!(status(&tool(&["asm", text, "-o", log])), 0);
-        let output = tool(&["explain", log]);
-        assert_eq!(status(&output), 1, "{events}");
-        assert_eq!(status(&tool(&["draw", log])), 0, "{events}");
-        String::from_utf8(output.stdout).unwrap()
+        pair.assemble(&format!("machines 3 persistent all\nL0 of 2\n{events}"));
+        pair.why()
     };
     let first = explained("R-RMW by 1 of L0, 1 to 5");
     assert!(first.starts_with("impossible: event 1, R-RMW by 1 of L0, 1 to 5\n"), "{first}");
@@ -176,71 +227,52 @@ const SET_FIELD: [u8; 8] = [3, 5, 0, 11, 0, 3, 0, 0];
 
 #[test]
 fn set_crashes_are_written_down() {
-    let folder = folder("set-unchecked");
-    let text = folder.join("a.txt");
-    let assembled = |lines: &str| {
-        fs::write(&text, format!("unchecked\n{lines}\n")).unwrap();
-        let output = tool(&["asm", text.to_str().unwrap()]);
-        assert_eq!(status(&output), 0, "{lines}");
-        output.stdout
-    };
+    let pair = Pair::new("set-unchecked");
     for line in SET_LINES {
-        assert_eq!(assembled(line), SET_FIELD, "{line}");
+        assert_eq!(pair.fields(line), SET_FIELD, "{line}");
     }
-    assert_eq!(assembled("Crash of 2"), [3, 5, 0, 7, 2, 0, 0, 0]);
-    assert_eq!(assembled("Crash of 8, 7, 1"), [3, 5, 0, 11, 0, 0xc1, 0, 0]);
+    assert_eq!(pair.fields("Crash of 2"), [3, 5, 0, 7, 2, 0, 0, 0]);
+    assert_eq!(pair.fields("Crash of 8, 7, 1"), [3, 5, 0, 11, 0, 0xc1, 0, 0]);
 }
 
 #[test]
 fn set_crashes_are_shown_explained_and_drawn() {
-    let folder = folder("set");
-    let [text, log, again] = ["a.txt", "a.log", "again.txt"].map(|name| folder.join(name));
-    let [text, log, again] = [&text, &log, &again].map(|path| path.to_str().unwrap());
-    let assemble = |events: &str| {
-        fs::write(text, format!("machines 3 persistent 2\nL0 of 1\nL1 of 2\n{events}\n")).unwrap();
-        assert_eq!(status(&tool(&["asm", text, "-o", log])), 0, "{events}");
-        fs::read(log).unwrap()
-    };
+    let pair = Pair::new("set");
+    let assemble = |events: &str| pair.assemble(&format!("machines 3 persistent 2\nL0 of 1\nL1 of 2\n{events}"));
     let stores = "MStore by 3 to L0 of 4\nLStore by 2 to L1 of 7\nLoad by 3 of L1, 7";
     let bytes = assemble(&format!("{stores}\nCrash of 3, 2, 1\nLoad by 2 of L0, 0\nLoad by 3 of L1, 0"));
     assert_eq!(bytes[37..45], [3, 5, 0, 11, 0, 7, 0, 0]);
-    assert_eq!(status(&tool(&["judge", log])), 0);
-    assert_eq!(status(&tool(&["show", log, "-o", again])), 0);
-    let shown = fs::read_to_string(again).unwrap();
+    assert!(pair.is_allowed());
+    let shown = pair.show();
     assert!(shown.lines().any(|line| line.starts_with("Crash of 1, 2, 3 ")), "{shown}");
-    assert_eq!(tool(&["asm", again]).stdout, bytes);
-    let explained = String::from_utf8(tool(&["explain", log]).stdout).unwrap();
+    let explained = pair.explain();
     // Machine 1 is volatile: it loses what is in its memory. L1 is in the persistent memory of 2, where it never came.
     let words = "1 loses L0 from its memory; 2 loses L1 from its cache; 3 loses L1 from its cache; \
                  L0: no cache holds it, memory 0; L1: no cache holds it, memory 0";
     let lines = explained.lines().filter(|line| line.contains("Crash of 1, 2, 3") && line.ends_with(words));
     assert_eq!(lines.count(), 1, "{explained}");
     for (location, crosses) in [("L0", 3), ("L1", 3)] {
-        let svg = String::from_utf8(tool(&["draw", log, "--location", location]).stdout).unwrap();
+        let svg = pair.draw(location);
         assert!(svg.contains(": Crash</text>"), "{svg}");
         assert_eq!(svg.matches("class=\"crash\"").count(), crosses, "{svg}");
     }
     // Who is not in the set keeps its copy and has no cross.
     assemble(&format!("{stores}\nCrash of 1, 2\nLFlush by 2 of L1\nLoad by 3 of L1, 7"));
-    assert_eq!(status(&tool(&["judge", log])), 0);
-    let svg = String::from_utf8(tool(&["draw", log, "--location", "L1"]).stdout).unwrap();
+    assert!(pair.is_allowed());
+    let svg = pair.draw("L1");
     assert_eq!(svg.matches("class=\"crash\"").count(), 2, "{svg}");
-    let explained = String::from_utf8(tool(&["explain", log]).stdout).unwrap();
+    let explained = pair.explain();
     assert!(explained.contains("1 loses L0 from its memory; 2 loses L1 from its cache; L0: "), "{explained}");
 }
 
 /// The request's example: one after the other, a copy moves between; in one step, nothing does.
 #[test]
 fn crashes_in_a_row_are_no_set_crash() {
-    let folder = folder("set-or-row");
-    let [text, log] = ["a.txt", "a.log"].map(|name| folder.join(name));
-    let [text, log] = [&text, &log].map(|path| path.to_str().unwrap());
+    let pair = Pair::new("set-or-row");
     let explained = |crashes: &str| {
         let head = "machines 2 persistent 2\nL0 of 1\nLStore by 2 to L0 of 5";
-        fs::write(text, format!("{head}\n{crashes}\nLoad by 2 of L0, 5\n")).unwrap();
-        assert_eq!(status(&tool(&["asm", text, "-o", log])), 0);
-        let judged = String::from_utf8(tool(&["judge", log]).stdout).unwrap();
-        (judged, String::from_utf8(tool(&["explain", log]).stdout).unwrap())
+        pair.assemble(&format!("{head}\n{crashes}\nLoad by 2 of L0, 5"));
+        (print(&["judge", &pair.log]), pair.explain())
     };
     let (judged, run) = explained("Crash of 1\nCrash of 2");
     assert!(judged.ends_with(": allowed 1\n") && run.contains("~ propagate by 2 of L0"), "{judged}{run}");
@@ -252,84 +284,57 @@ fn crashes_in_a_row_are_no_set_crash() {
 
 #[test]
 fn initial_values_are_written_down() {
-    let folder = folder("initial-unchecked");
-    let text = folder.join("a.txt");
-    let assembled = |lines: &str| {
-        fs::write(&text, format!("unchecked\n{lines}\n")).unwrap();
-        let output = tool(&["asm", text.to_str().unwrap()]);
-        assert_eq!(status(&output), 0, "{lines}");
-        output.stdout
-    };
+    let pair = Pair::new("initial-unchecked");
     for line in ["L0 of 2 initially 258", "L0 2 initially 0x102", "l0 of 2, initially 258"] {
-        assert_eq!(assembled(line), [2, 3, 0, 2, 2, 1], "{line}");
+        assert_eq!(pair.fields(line), [2, 3, 0, 2, 2, 1], "{line}");
     }
-    assert_eq!(assembled("L0 of 2 initially 65535\nL1 of 9 initially 1"), [2, 3, 0, 2, 255, 255, 2, 3, 0, 9, 1, 0]);
+    assert_eq!(pair.fields("L0 of 2 initially 65535\nL1 of 9 initially 1"), [2, 3, 0, 2, 255, 255, 2, 3, 0, 9, 1, 0]);
     // The short field says 0.
     for line in ["L0 of 2", "L0 of 2 initially 0", "L0 2 initially 0x0"] {
-        assert_eq!(assembled(line), [2, 1, 0, 2], "{line}");
+        assert_eq!(pair.fields(line), [2, 1, 0, 2], "{line}");
     }
 }
 
 #[test]
 fn initial_values_are_shown_explained_and_drawn() {
-    let folder = folder("initial");
-    let [text, log, again] = ["a.txt", "a.log", "again.txt"].map(|name| folder.join(name));
-    let [text, log, again] = [&text, &log, &again].map(|path| path.to_str().unwrap());
-    let assemble = |events: &str| {
-        let head = "machines 3 persistent 3\nL0 of 1 initially 7\nL1 of 2 initially 0\nL2 of 2 initially 0x100";
-        fs::write(text, format!("{head}\n{events}\n")).unwrap();
-        assert_eq!(status(&tool(&["asm", text, "-o", log])), 0, "{events}");
-        fs::read(log).unwrap()
-    };
-    let print = |words: &[&str]| String::from_utf8(tool(words).stdout).unwrap();
+    let pair = Pair::new("initial");
+    let head = "machines 3 persistent 3\nL0 of 1 initially 7\nL1 of 2 initially 0\nL2 of 2 initially 0x100";
+    let assemble = |events: &str| pair.assemble(&format!("{head}\n{events}"));
     let bytes =
         assemble("Load by 3 of L0, 7\nMStore by 3 to L0 of 1\nMStore by 3 to L1 of 2\nCrash of 1\nLoad by 3 of L0, 7");
     assert_eq!(bytes[5..21], [2, 3, 0, 1, 7, 0, 2, 1, 0, 2, 2, 3, 0, 2, 0, 1]);
-    assert_eq!(status(&tool(&["judge", log])), 0);
-    assert_eq!(status(&tool(&["show", log, "-o", again])), 0);
-    let shown = fs::read_to_string(again).unwrap();
+    assert!(pair.is_allowed());
+    let shown = pair.show();
     assert!(shown.contains("\nL0 of 1 initially 7\nL1 of 2\nL2 of 2 initially 256\n\n"), "{shown}");
-    assert_eq!(tool(&["asm", again]).stdout, bytes);
-    let explained = print(&["explain", log]);
+    let explained = pair.explain();
     let run: Vec<&str> = explained.lines().skip(2).collect();
     let power_on = "L0: no cache holds it, memory 7; L2: no cache holds it, memory 256";
     assert!(run[0].contains("at power-on") && run[0].ends_with(power_on), "{explained}");
     assert!(run[1].ends_with("L0: loaded from memory"), "{explained}");
     assert!(run[4].contains("Crash of 1 ") && run[4].ends_with("L0: no cache holds it, memory 7"), "{explained}");
     assert_eq!((run.len(), explained.matches("memory 0").count()), (6, 0), "{explained}");
-    // The bars of the memory: 7, then 1, and 7 again.
-    let memory = |location: &str| {
-        let svg = print(&["draw", log, "--location", location]);
-        let bars = svg.lines().filter(|line| line.starts_with("<rect class=\"memory\""));
-        let value = |bar: &str| bar.rsplit_once("</text>").unwrap().0.rsplit_once('>').unwrap().1.to_string();
-        (bars.map(value).collect::<Vec<_>>(), svg)
-    };
-    let (bars, svg) = memory("L0");
-    assert_eq!(bars, ["7", "1", "7"], "{svg}");
-    assert!(svg.contains(">L0, in the volatile memory of 1, initially 7</text>"), "{svg}");
-    let (bars, svg) = memory("L1");
-    assert_eq!(bars, ["0", "2"], "{svg}");
-    assert!(svg.contains(">L1, in the volatile memory of 2</text>"), "{svg}");
-    assert_eq!(memory("L2").0, ["256"]);
+    for (location, title, bars) in [
+        ("L0", "L0, in the volatile memory of 1, initially 7", "7 1 7"),
+        ("L1", "L1, in the volatile memory of 2", "0 2"),
+        ("L2", "L2, in the volatile memory of 2, initially 256", "256"),
+    ] {
+        assert_eq!(pair.memory(location), (title.to_string(), bars.to_string()));
+    }
     // In a set crash each returns to its own; what is at its initial value is not lost.
     assemble("MStore by 3 to L0 of 1\nMStore by 3 to L1 of 2\nCrash of 1, 2\nLoad by 3 of L0, 7\nLoad by 3 of L1, 0");
-    assert_eq!(status(&tool(&["judge", log])), 0);
+    assert!(pair.is_allowed());
+    let explained = pair.explain();
     let words = "1 loses L0 from its memory; 2 loses L1 from its memory; \
                  L0: no cache holds it, memory 7; L1: no cache holds it, memory 0";
-    assert!(print(&["explain", log]).lines().any(|line| line.ends_with(words)), "{}", print(&["explain", log]));
+    assert!(explained.lines().any(|line| line.ends_with(words)), "{explained}");
 }
 
 #[test]
 fn what_is_not_the_initial_value_is_explained() {
-    let folder = folder("initial-impossible");
-    let [text, log] = ["a.txt", "a.log"].map(|name| folder.join(name));
-    let [text, log] = [&text, &log].map(|path| path.to_str().unwrap());
+    let pair = Pair::new("initial-impossible");
     let explained = |persistent: &str, events: &str| {
-        fs::write(text, format!("machines 2 persistent {persistent}\nL0 of 2 initially 7\n{events}\n")).unwrap();
-        assert_eq!(status(&tool(&["asm", text, "-o", log])), 0, "{events}");
-        let output = tool(&["explain", log]);
-        assert_eq!((status(&output), status(&tool(&["draw", log]))), (1, 0), "{events}");
-        String::from_utf8(output.stdout).unwrap()
+        pair.assemble(&format!("machines 2 persistent {persistent}\nL0 of 2 initially 7\n{events}"));
+        pair.why()
     };
     let zero = explained("none", "MStore by 1 to L0 of 1\nCrash of 2\nLoad by 1 of L0, 0");
     assert!(zero.starts_with("impossible: event 3, Load by 1 of L0, 0\n"), "{zero}");
@@ -343,14 +348,7 @@ fn what_is_not_the_initial_value_is_explained() {
 
 #[test]
 fn kinds_are_written_down() {
-    let folder = folder("kinds-unchecked");
-    let text = folder.join("a.txt");
-    let assembled = |lines: &str| {
-        fs::write(&text, format!("unchecked\n{lines}\n")).unwrap();
-        let output = tool(&["asm", text.to_str().unwrap()]);
-        assert_eq!(status(&output), 0, "{lines}");
-        output.stdout
-    };
+    let pair = Pair::new("kinds-unchecked");
     // The row has a kind byte where the kind is not the owner's, and only there.
     for (persistent, volatile, persistent_row) in [
         ("all", &[2, 2, 0, 2, 1][..], &[2, 1, 0, 2][..]),
@@ -358,7 +356,7 @@ fn kinds_are_written_down() {
         ("none", &[2, 1, 0, 2], &[2, 2, 0, 2, 2]),
         ("1", &[2, 1, 0, 2], &[2, 2, 0, 2, 2]),
     ] {
-        let row = |line: &str| assembled(&format!("machines 2 persistent {persistent}\n{line}"))[5..].to_vec();
+        let row = |line: &str| pair.fields(&format!("machines 2 persistent {persistent}\n{line}"))[5..].to_vec();
         for line in ["L0 of 2 volatile", "L0 2 volatile", "l0 of 2, volatile", "L0 of 2 initially 0 volatile"] {
             assert_eq!(row(line), volatile, "{persistent}: {line}");
         }
@@ -371,80 +369,59 @@ fn kinds_are_written_down() {
         assert_eq!(row("L0 of 2 initially 0x102 persistent"), with_initial(persistent_row), "{persistent}");
     }
     // Nobody is persistent until a line says so, and no machine that a set has no bit for.
-    assert_eq!(assembled("L0 of 1 volatile\nL1 of 1 persistent"), [2, 1, 0, 1, 2, 2, 0, 1, 2]);
-    assert_eq!(assembled("machines 2 persistent all\nL0 of 9 persistent")[5..], [2, 2, 0, 9, 2]);
+    assert_eq!(pair.fields("L0 of 1 volatile\nL1 of 1 persistent"), [2, 1, 0, 1, 2, 2, 0, 1, 2]);
+    assert_eq!(pair.fields("machines 2 persistent all\nL0 of 9 persistent")[5..], [2, 2, 0, 9, 2]);
     // A kind byte that is refused.
-    assert_eq!(assembled("bytes 02 02 00 02 03"), [2, 2, 0, 2, 3]);
+    assert_eq!(pair.fields("bytes 02 02 00 02 03"), [2, 2, 0, 2, 3]);
 }
 
 #[test]
 fn kinds_are_shown_explained_and_drawn() {
-    let folder = folder("kinds");
-    let [text, log, again] = ["a.txt", "a.log", "again.txt"].map(|name| folder.join(name));
-    let [text, log, again] = [&text, &log, &again].map(|path| path.to_str().unwrap());
-    let assemble = |events: &str| {
-        let rows = "L0 of 1\nL1 of 1 volatile\nL2 of 1 initially 7 volatile\nL3 of 2 persistent\nL4 of 2 volatile";
-        fs::write(text, format!("machines 3 persistent 1\n{rows}\n{events}\n")).unwrap();
-        assert_eq!(status(&tool(&["asm", text, "-o", log])), 0, "{events}");
-        fs::read(log).unwrap()
-    };
-    let print = |words: &[&str]| String::from_utf8(tool(words).stdout).unwrap();
+    let pair = Pair::new("kinds");
+    let rows = "L0 of 1\nL1 of 1 volatile\nL2 of 1 initially 7 volatile\nL3 of 2 persistent\nL4 of 2 volatile";
+    let assemble = |events: &str| pair.assemble(&format!("machines 3 persistent 1\n{rows}\n{events}"));
     let stores: Vec<String> = (0..5).map(|x| format!("MStore by 3 to L{x} of 1")).collect();
     let stores = stores.join("\n");
     let bytes = assemble(&format!("{stores}\nCrash of 1\nLoad by 3 of L0, 1\nLoad by 3 of L1, 0\nLoad by 3 of L2, 7"));
     assert_eq!(bytes[5..30], [2, 1, 0, 1, 2, 2, 0, 1, 1, 2, 4, 0, 1, 7, 0, 1, 2, 2, 0, 2, 2, 2, 1, 0, 2]);
-    assert_eq!(status(&tool(&["judge", log])), 0);
-    assert_eq!(status(&tool(&["show", log, "-o", again])), 0);
+    assert!(pair.is_allowed());
     // The kind is named where it is not the owner's.
-    let shown = fs::read_to_string(again).unwrap();
+    let shown = pair.show();
     let rows = "\nL0 of 1\nL1 of 1 volatile\nL2 of 1 initially 7 volatile\nL3 of 2 persistent\nL4 of 2\n\n";
     assert!(shown.starts_with("machines 3 persistent 1\n") && shown.contains(rows), "{shown}");
-    assert_eq!(tool(&["asm", again]).stdout, bytes);
-    let explained = print(&["explain", log]);
+    let explained = pair.explain();
     let run: Vec<&str> = explained.lines().skip(2).collect();
     let power_on = "L1: no cache holds it, memory 0, volatile; L2: no cache holds it, memory 7, volatile; \
                     L3: no cache holds it, memory 0, persistent";
     assert!(run[0].contains("at power-on") && run[0].ends_with(&format!("  {power_on}")), "{explained}");
     let lost = "  L1: no cache holds it, memory 0; L2: no cache holds it, memory 7";
     assert!(run[6].contains("Crash of 1 ") && run[6].ends_with(lost), "{explained}");
-    let memory = |location: &str| {
-        let svg = print(&["draw", log, "--location", location]);
-        let bars = svg.lines().filter(|line| line.starts_with("<rect class=\"memory\""));
-        let value = |bar: &str| bar.rsplit_once("</text>").unwrap().0.rsplit_once('>').unwrap().1.to_string();
-        let title = svg.lines().find(|line| line.contains("class=\"title\"")).unwrap();
-        (bars.map(value).collect::<Vec<_>>().join(" "), value(title))
-    };
-    for (location, bars, title) in [
-        ("L0", "0 1", "L0, in the persistent memory of 1"),
-        ("L1", "0 1 0", "L1, in the volatile part of the memory of 1"),
-        ("L2", "7 1 7", "L2, in the volatile part of the memory of 1, initially 7"),
-        ("L3", "0 1", "L3, in the persistent part of the memory of 2"),
-        ("L4", "0 1", "L4, in the volatile memory of 2"),
+    for (location, title, bars) in [
+        ("L0", "L0, in the persistent memory of 1", "0 1"),
+        ("L1", "L1, in the volatile part of the memory of 1", "0 1 0"),
+        ("L2", "L2, in the volatile part of the memory of 1, initially 7", "7 1 7"),
+        ("L3", "L3, in the persistent part of the memory of 2", "0 1"),
+        ("L4", "L4, in the volatile memory of 2", "0 1"),
     ] {
-        assert_eq!(memory(location), (bars.to_string(), title.to_string()));
+        assert_eq!(pair.memory(location), (title.to_string(), bars.to_string()));
     }
     // In a set crash each machine loses what it has in volatile memory.
     assemble(&format!("{stores}\nCrash of 1, 2\nLoad by 3 of L3, 1\nLoad by 3 of L4, 0"));
-    assert_eq!(status(&tool(&["judge", log])), 0);
-    let explained = print(&["explain", log]);
+    assert!(pair.is_allowed());
+    let explained = pair.explain();
     let words = "  1 loses L1, L2 from its memory; 2 loses L4 from its memory; L1: no cache holds it, memory 0; \
                  L2: no cache holds it, memory 7; L4: no cache holds it, memory 0";
     assert!(explained.lines().any(|line| line.ends_with(words)), "{explained}");
-    assert_eq!((memory("L3").0.as_str(), memory("L4").0.as_str()), ("0 1", "0 1 0"));
+    assert_eq!((pair.memory("L3").1.as_str(), pair.memory("L4").1.as_str()), ("0 1", "0 1 0"));
 }
 
 #[test]
 fn what_the_kind_does_not_leave_is_explained() {
-    let folder = folder("kinds-impossible");
-    let [text, log] = ["a.txt", "a.log"].map(|name| folder.join(name));
-    let [text, log] = [&text, &log].map(|path| path.to_str().unwrap());
+    let pair = Pair::new("kinds-impossible");
     let explained = |head: &str, value: u16| {
         let events = format!("MStore by 1 to L0 of 1\nCrash of 2\nLoad by 1 of L0, {value}");
-        fs::write(text, format!("machines 2 persistent {head}\n{events}\n")).unwrap();
-        assert_eq!(status(&tool(&["asm", text, "-o", log])), 0, "{head}");
-        let output = tool(&["explain", log]);
-        assert_eq!((status(&output), status(&tool(&["draw", log]))), (1, 0), "{head}");
-        String::from_utf8(output.stdout).unwrap()
+        pair.assemble(&format!("machines 2 persistent {head}\n{events}"));
+        pair.why()
     };
     let kept = explained("none\nL0 of 2 persistent", 0);
     assert!(kept.contains("a load by 1 of L0 can return 1, not 0.\n"), "{kept}");
@@ -458,14 +435,12 @@ fn what_the_kind_does_not_leave_is_explained() {
 /// A kind byte that is refused is refused at its field.
 #[test]
 fn bad_kinds_are_refused() {
-    let folder = folder("kinds-refused");
-    let [text, log] = ["a.txt", "a.log"].map(|name| folder.join(name));
-    let [text, log] = [&text, &log].map(|path| path.to_str().unwrap());
+    let pair = Pair::new("kinds-refused");
+    let log = pair.log.as_str();
     for (persistent, bad) in [("all", "02"), ("all", "00"), ("none", "01"), ("none", "03"), ("2", "02"), ("2", "ff")] {
         for row in ["02 02 00 02", "02 04 00 02 07 00"] {
             let lines = format!("machines 2 persistent {persistent}\nL0 of 1\nbytes {row} {bad}\nend");
-            fs::write(text, format!("unchecked\n{lines}\n")).unwrap();
-            assert_eq!(status(&tool(&["asm", text, "-o", log])), 0, "{lines}");
+            pair.fields(&lines);
             let judged = tool(&["judge", log]);
             assert_eq!(
                 (status(&judged), String::from_utf8(judged.stdout).unwrap()),
