@@ -57,41 +57,15 @@ unfolding allRight
 each (a ∷ ls) t l (List·Memᴰ·head e) = rw e (and-l (right a) (allRight ls) t)
 each (a ∷ ls) t l (List·Memᴰ·tail m) = each ls (and-r (right a) (allRight ls) t) l m
 
--- The whole test, computed.
-all-right : T (allRight logs)
+-- The whole test of each list, computed.
+all-right : T (allRight logs) × T (allRight patternLogs) × T (allRight setCrashLogs) × T (allRight kindLogs)
 unfolding
-    logs log three persistent volatile
-    allRight right ownersFit judged decide everyBelow good someSilent someMoved
-    isMachine isLocation owner initial keeps isPersistent crashes clears named allNamed has insert remove
-    concerns eventAt locationOf enabledAt siteOf moved effect possibleAt nextAt startAt
-all-right = tt
-
-all-right-pattern : T (allRight patternLogs)
-unfolding
-    patternLogs log three
+    logs patternLogs setCrashLogs kindLogs log three persistent volatile
     allRight right ownersFit judged decide everyBelow good someSilent someMoved
     isMachine isLocation owner initial keeps isPersistent crashes clears named allNamed
     has insert remove removeAll
     concerns eventAt locationOf enabledAt siteOf moved effect possibleAt nextAt startAt
-all-right-pattern = tt
-
-all-right-set : T (allRight setCrashLogs)
-unfolding
-    setCrashLogs log three volatile
-    allRight right ownersFit judged decide everyBelow good someSilent someMoved
-    isMachine isLocation owner initial keeps isPersistent crashes clears named allNamed
-    has insert remove removeAll
-    concerns eventAt locationOf enabledAt siteOf moved effect possibleAt nextAt startAt
-all-right-set = tt
-
-all-right-kinds : T (allRight kindLogs)
-unfolding
-    kindLogs log three
-    allRight right ownersFit judged decide everyBelow good someSilent someMoved
-    isMachine isLocation owner initial keeps isPersistent crashes clears named allNamed
-    has insert remove removeAll
-    concerns eventAt locationOf enabledAt siteOf moved effect possibleAt nextAt startAt
-all-right-kinds = tt
+all-right = (tt, tt, tt, tt)
 
 -- Each log of a list that passes has a well-formed system and its verdict.
 each-right : (ls : List MarkedLog) → T (allRight ls) → (l : MarkedLog) → List·Memᴰ l ls
@@ -106,16 +80,16 @@ each-right ls t l m =
 
 pub marked-logs : (l : MarkedLog) → List·Memᴰ l logs
     → WellFormed (l .system) × Verdict (l .system) (l .events) (l .verdict)
-marked-logs = each-right logs all-right
+marked-logs = each-right logs (all-right .0)
 
 pub pattern-logs : (l : MarkedLog) → List·Memᴰ l patternLogs
     → WellFormed (l .system) × Verdict (l .system) (l .events) (l .verdict)
-pattern-logs = each-right patternLogs all-right-pattern
+pattern-logs = each-right patternLogs (all-right .1)
 
 pub set-crash-logs : (l : MarkedLog) → List·Memᴰ l setCrashLogs
     → WellFormed (l .system) × Verdict (l .system) (l .events) (l .verdict)
-set-crash-logs = each-right setCrashLogs all-right-set
+set-crash-logs = each-right setCrashLogs (all-right .2)
 
 pub kind-logs : (l : MarkedLog) → List·Memᴰ l kindLogs
     → WellFormed (l .system) × Verdict (l .system) (l .events) (l .verdict)
-kind-logs = each-right kindLogs all-right-kinds
+kind-logs = each-right kindLogs (all-right .3)
