@@ -64,7 +64,7 @@ WellFormed sys = (x : Location) → T (isLocation sys x) → T (isMachine sys (o
 unfoldable pub initial : Topology → Location → Value
 initial sys x = getD (sys .homes) x nowhere .initial
 
--- The memory at a home is persistent, where that of these machines is: by its owner's kind, or by the other one.
+-- The memory at a home is persistent if its owner's is or, where it differs, if its owner's is not.
 unfoldable pub keeps : (Machine → Bool) → Home → Bool
 keeps persistent h = cond (h .differs) (not (persistent (h .owner))) (persistent (h .owner))
 
