@@ -16,7 +16,8 @@ use Rattle.model.proofs.Limits.{within}
 use Rattle.model.proofs.Tests.{and-i, T→true}
 use Rattle.verdict_file.specs.Files.{Verdict, allowed, impossible, fileOf, stepsMost, eventsMost}
 use Rattle.verdict_file.specs.Fitting.{everyStepFits, scheduleFits}
-use Rattle.verdict_file.specs.Writing.{writable, room, put, output}
+use Rattle.fields.specs.Put.{put}
+use Rattle.verdict_file.specs.Writing.{writable, room, output}
 use Rattle.verdict_file.proofs.Writing.{file}
 use Rattle.verdict_file.proofs.Fitting.{run-fits}
 use Rattle.verdict_file.proofs.Writable.{fits-writable, event-writable}

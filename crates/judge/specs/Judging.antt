@@ -10,7 +10,8 @@ use Rattle.fields.specs.Refusals.{numberOf}
 use Rattle.log.specs.Records.{Records, systemOf}
 use Rattle.log.specs.Reading.{Log, accepted, rejected, readLog}
 use Rattle.verdict_file.specs.Files.{Verdict, allowed, impossible, fileOf}
-use Rattle.verdict_file.specs.Writing.{room, put}
+use Rattle.fields.specs.Put.{put}
+use Rattle.verdict_file.specs.Writing.{room}
 use Rattle.replay.specs.Replaying as replaying
 use Rattle.replay.specs.Replaying.{replayLog}
 use Rattle.scratch.specs.Clearing.{zeros}

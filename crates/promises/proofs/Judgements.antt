@@ -14,8 +14,9 @@ use Rattle.model.proofs.Tests.{true→T}
 use Rattle.log.specs.Records.{Records, systemOf}
 use Rattle.log.specs.Reading.{accepted, rejected, readLog}
 use Rattle.verdict_file.specs.Files.{Verdict, allowed, impossible, fileOf}
-use Rattle.verdict_file.specs.Writing.{room, put}
-use Rattle.verdict_file.proofs.Put.{put-there}
+use Rattle.fields.specs.Put.{put}
+use Rattle.verdict_file.specs.Writing.{room}
+use Rattle.fields.proofs.Put.{put-there}
 use Rattle.replay.specs.Replaying as replaying
 use Rattle.replay.specs.Replaying.{replayLog}
 use Rattle.replay.proofs.Demand2.{yes-few}

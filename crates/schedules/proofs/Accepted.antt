@@ -19,7 +19,7 @@ use Rattle.verdict_file.specs.Files.{allowed, header, stepField, stepFields, en
 use Rattle.verdict_file.specs.Answers.{gives}
 use Rattle.verdict_file.specs.Writing.{answer, output}
 use Rattle.verdict_file.specs.Fitting.{scheduleFits}
-use Rattle.verdict_file.proofs.Put.{put-there}
+use Rattle.fields.proofs.Put.{put-there}
 use Rattle.verdict_file.proofs.Writing.{has-room, given}
 use Rattle.schedules.specs.Schedules.{starts, readSteps, saysAllowed, readAllowed}
 use Rattle.schedules.specs.Schedules.{kept, readSchedule}

@@ -1,6 +1,5 @@
 pub mod Vectors
 pub mod Files
-pub mod Put
 pub mod Words
 pub mod Writing
 pub mod Fitting

@@ -15,9 +15,10 @@ use Rattle.model.specs.Words.{stepOfWord}
 use Rattle.fields.specs.Numbers.{bytesOf}
 use Rattle.log.specs.Bytes.{field}
 use Rattle.verdict_file.specs.Files.{stepsMost, eventsMost, header, stepField, stepFields, end, fileOf}
-use Rattle.verdict_file.specs.Writing.{allowedBy, threeBytes, allThreeBytes, writable, comesNext, put}
+use Rattle.fields.specs.Put.{put}
+use Rattle.verdict_file.specs.Writing.{allowedBy, threeBytes, allThreeBytes, writable, comesNext}
 use Rattle.verdict_file.proofs.Files.{length-stepFields}
-use Rattle.verdict_file.proofs.Put.{put-more}
+use Rattle.fields.proofs.Put.{put-more}
 
 -- The fields of the first i words.
 abbrev pub fields : List ℕ → ℕ → List ℕ

@@ -9,8 +9,9 @@ use borrow.Author.Tests.{leb-true}
 use Rattle.log.proofs.Checks.{clash}
 use Rattle.verdict_file.specs.Files.{Verdict, fileOf, fileMost}
 use Rattle.verdict_file.specs.Answers.{gives, refused}
-use Rattle.verdict_file.specs.Writing.{writable, room, put, answer, output}
-use Rattle.verdict_file.proofs.Put.{put-part}
+use Rattle.fields.specs.Put.{put}
+use Rattle.verdict_file.specs.Writing.{writable, room, answer, output}
+use Rattle.fields.proofs.Put.{put-part}
 
 pub has-room : (out : List ℕ) (offset : ℕ) → room out offset ≡ true → offset + fileMost ≤ length out
 unfolding room

@@ -1,11 +1,12 @@
 -- What the writers answer and leave in the output.
 use Prim.Native.Nat.{ℕ, _+_}
 use mathlib.Core.Bool.{Bool, true, cond, _&&_}
-use mathlib.Core.List.{List, [], _∷_, _++_, map}
+use mathlib.Core.List.{List, [], _∷_, map}
 use lib.Dec.{leb, ltb}
-use lib.ListN.{length, take, drop}
+use lib.ListN.{length}
 use Rattle.model.specs.Schedule.{Step, inOrder}
 use Rattle.model.specs.Words.{stepOfWord}
+use Rattle.fields.specs.Put.{put}
 use Rattle.verdict_file.specs.Files.{Verdict, allowed, impossible, fileOf, stepsMost, fileMost, eventsMost}
 use Rattle.verdict_file.specs.Answers.{Answer, gives, refused}
 
@@ -34,10 +35,6 @@ comesNext least p = threeBytes p && (leb least (p .before) && leb (p .before) ev
 -- The longest file has room from the offset on.
 unfoldable pub room : List ℕ → ℕ → Bool
 room out offset = leb (offset + fileMost) (length out)
-
--- The list with these bytes at a position.
-unfoldable pub put : List ℕ → ℕ → List ℕ → List ℕ
-put l at bytes = take at l ++ bytes ++ drop (at + length bytes) l
 
 -- 1 if the output has no room, then 13 if the verdict is not of a verdict file's form; else the length of its file.
 unfoldable pub answer : (out : List ℕ) (offset : ℕ) → Verdict → Answer

@@ -12,7 +12,8 @@ ghost use lib.Dec.{T, leb};
 ghost use lib.ListN.{length};
 ghost use Rattle.model.specs.Words.{stepOfWord};
 ghost use Rattle.verdict_file.specs.Files.{impossible, fileMost, header, stepField, end, fileOf};
-ghost use Rattle.verdict_file.specs.Writing.{allowedBy, writable, comesNext, put};
+ghost use Rattle.fields.specs.Put.{put};
+ghost use Rattle.verdict_file.specs.Writing.{allowedBy, writable, comesNext};
 
 // The words below it are steps of three bytes.
 const WORD_END: u64 = 0x100_0000;

@@ -12,7 +12,7 @@ use borrow.Author.Tests.{not-true, not-false}
 use Rattle.model.proofs.Tests.{true→T}
 use Rattle.verdict_file.specs.Files.{Verdict, fileMost}
 use Rattle.verdict_file.specs.Writing.{allowedBy, writable, room}
-use Rattle.verdict_file.proofs.Put.{length-part}
+use Rattle.fields.proofs.Put.{length-part}
 use Rattle.verdict_file.proofs.Writing.{has-room, no-room, no-form, file, refuses, writes}
 use Rattle.verdict_file.proofs.write_allowed.Statement.{statement}
 use Rattle.verdict_file.proofs.write_allowed.Tie as tie

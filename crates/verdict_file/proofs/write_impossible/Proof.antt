@@ -11,7 +11,7 @@ use borrow.Author.Needs.{needs}
 use borrow.Author.Tests.{not-true, not-false}
 use Rattle.verdict_file.specs.Files.{Verdict, impossible, fileMost}
 use Rattle.verdict_file.specs.Writing.{writable, room}
-use Rattle.verdict_file.proofs.Put.{length-part}
+use Rattle.fields.proofs.Put.{length-part}
 use Rattle.verdict_file.proofs.Writing.{has-room, no-room, no-form, file, refuses, writes}
 use Rattle.verdict_file.proofs.write_impossible.Statement.{statement}
 use Rattle.verdict_file.proofs.write_impossible.Tie as tie

@@ -9,9 +9,9 @@ use denote.Ref.{now}
 use borrow.Author.Needs.{needs}
 use Rattle.model.specs.Words.{stepOfWord}
 use Rattle.verdict_file.specs.Files.{header, stepField, stepFields, end}
-use Rattle.verdict_file.specs.Writing.{put}
+use Rattle.fields.specs.Put.{put}
 use Rattle.verdict_file.proofs.Files.{length-allowed}
-use Rattle.verdict_file.proofs.Put.{put-none}
+use Rattle.fields.proofs.Put.{put-none}
 use Rattle.verdict_file.proofs.Words.{fields, few, small, put-word, put-file}
 use Rattle.verdict_file.proofs.filling.fill_allowed.Statement.{statement}
 use Rattle.verdict_file.proofs.filling.fill_allowed.Tie as tie

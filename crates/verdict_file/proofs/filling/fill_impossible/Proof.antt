@@ -8,8 +8,8 @@ use borrow.Author.Needs.{needs}
 use Rattle.fields.specs.Numbers.{bytesOf}
 use Rattle.log.specs.Bytes.{field}
 use Rattle.verdict_file.specs.Files.{header, end, fileOf}
-use Rattle.verdict_file.specs.Writing.{put}
-use Rattle.verdict_file.proofs.Put.{put-more}
+use Rattle.fields.specs.Put.{put}
+use Rattle.fields.proofs.Put.{put-more}
 use Rattle.verdict_file.proofs.filling.fill_impossible.Statement.{statement}
 use Rattle.verdict_file.proofs.filling.fill_impossible.Tie as tie
 

@@ -7,7 +7,7 @@ use lib.ListN.{length-set}
 use Rattle.fields.specs.Numbers.{bytesOf}
 use Rattle.log.specs.Bytes.{field}
 use Rattle.verdict_file.specs.Files.{end}
-use Rattle.verdict_file.proofs.Put.{put-sets}
+use Rattle.fields.proofs.Put.{put-sets}
 use Rattle.verdict_file.proofs.filling.put_end.Statement.{statement}
 use Rattle.verdict_file.proofs.filling.put_end.Tie as tie
 

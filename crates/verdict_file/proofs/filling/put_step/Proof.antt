@@ -8,7 +8,7 @@ use Rattle.model.specs.Words.{stepOfWord}
 use Rattle.fields.specs.Numbers.{bytesOf}
 use Rattle.log.specs.Bytes.{field}
 use Rattle.verdict_file.specs.Files.{stepField}
-use Rattle.verdict_file.proofs.Put.{put-sets}
+use Rattle.fields.proofs.Put.{put-sets}
 use Rattle.verdict_file.proofs.filling.put_step.Statement.{statement}
 use Rattle.verdict_file.proofs.filling.put_step.Tie as tie
 
