@@ -1,10 +1,11 @@
--- The answers of the four calls, each as one number of 64 bits. Bits 0 to 7 are the number of a refusal, or 0
+-- The answers of the five calls, each as one number of 64 bits. Bits 0 to 7 are the number of a refusal, or 0
 -- if there is none, and a refusal leaves all other bits 0. Bits that are not named are 0.
 use Prim.Native.Nat.{ℕ, _+_, _*_, _^_, _<_}
 use mathlib.Core.Path.{_≡_}
 use mathlib.Core.List.{List}
 use Rattle.reader.specs.Answers.{Summary, holds, refused}
 use Rattle.recorder.specs.Recording.{Recorded, count, rejected}
+use Rattle.converter.specs.Converting as converting
 use Rattle.replay.specs.Replaying as replaying
 use Rattle.judge.specs.Judging as judging
 use Rattle.judge.specs.Judging.{Judges}
@@ -16,9 +17,14 @@ packRecorded (rejected number) = number
 
 -- Bits 8 to 15 are the machines, 16 to 23 the locations, 24 to 31 the events.
 abbrev pub packSummary : Summary → ℕ
-packSummary (holds machines persistent locations events) =
+packSummary (holds edition machines persistent locations events) =
     machines * 2 ^ 8 + locations * 2 ^ 16 + events * 2 ^ 24
 packSummary (refused number) = number
+
+-- Bits 8 to 31 are the length of the log that was written.
+abbrev pub packConverted : converting.Answer → ℕ
+packConverted (converting.gives len) = len * 2 ^ 8
+packConverted (converting.Answer.refused number) = number
 
 -- Bit 8 is set if the answer is yes, and if it is no, bits 16 to 23 are the events passed.
 abbrev pub packReplayed : replaying.Answer → ℕ
@@ -37,6 +43,10 @@ packJudged (judging.refused number) = number
 abbrev pub RecordedFits : Recorded → Type 0
 RecordedFits (count n) = n < 2 ^ 32
 RecordedFits (rejected number) = Unit {0}
+
+abbrev pub ConvertedFits : converting.Answer → Type 0
+ConvertedFits (converting.gives len) = len < 2 ^ 24
+ConvertedFits (converting.Answer.refused number) = Unit {0}
 
 abbrev pub JudgedFits : judging.Answer → Type 0
 JudgedFits (judging.gives verdict event steps len) = (steps < 2 ^ 16) × (len < 2 ^ 16)

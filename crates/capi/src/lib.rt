@@ -1,9 +1,11 @@
-// The calls for C, Rust and Python: `cxl0_record`, `cxl0_read`, `cxl0_replay` and `cxl0_judge` make the proved
-// calls and pack each answer in one number, as specs/Packing.antt says. In C a slice is a pointer and a length.
+// The calls for C, Rust and Python: `cxl0_record`, `cxl0_read`, `cxl0_convert`, `cxl0_replay` and `cxl0_judge` make the
+// proved calls and pack each answer in one number, as specs/Packing.antt says. In C a slice is a pointer and a length.
 // No call has a `requires`.
 mod packing;
 
+use converter::convert;
 use judge::judge;
+use packing::pack_converted;
 use packing::pack_judged;
 use packing::pack_reading;
 use packing::pack_recorded;
@@ -14,15 +16,17 @@ use replay::replay;
 ghost use mathlib.Core.Path.{_≡_};
 ghost use Rattle.log.specs.Reading.{readLog};
 ghost use Rattle.reader.specs.Answers.{summaryOf};
-ghost use Rattle.recorder.specs.Recording.{recorded, written};
+ghost use Rattle.recorder.specs.Recording as recording;
+ghost use Rattle.recorder.specs.Recording.{recorded};
+ghost use Rattle.converter.specs.Converting.{conversion, told, written};
 ghost use Rattle.replay.specs.Replaying.{replayLog};
-ghost use Rattle.capi.specs.Packing.{packRecorded, packSummary, packReplayed, JudgesPacked};
+ghost use Rattle.capi.specs.Packing.{packRecorded, packSummary, packConverted, packReplayed, JudgesPacked};
 
 // Puts one field after the used bytes of a buffer. No other byte changes; on a refusal none does.
 #[no_mangle]
 pub extern "C" fn cxl0_record(buf: &mut [u8], used: usize, tag: u8, payload: &[u8]) -> u64
     ensures { λ r. ⌜ r ≡ packRecorded (recorded (now (buf .entry)) used tag (now (payload .entry))) ⌝ }
-    ensures { λ r. ⌜ now (buf .exit) ≡ written (recorded (now (buf .entry)) used tag (now (payload .entry)))
+    ensures { λ r. ⌜ now (buf .exit) ≡ recording.written (recorded (now (buf .entry)) used tag (now (payload .entry)))
         (now (buf .entry)) used tag (now (payload .entry)) ⌝ }
 {
     pack_recorded(record(buf, used, tag, payload))
@@ -34,6 +38,16 @@ pub extern "C" fn cxl0_read(log: &[u8]) -> u64
     ensures { λ r. ⌜ r ≡ packSummary (summaryOf (readLog (now (log .entry)))) ⌝ }
 {
     pack_reading(read(log))
+}
+
+// Writes a log in the other edition from the output's first byte on. The rest of the output is as it was; after a refusal
+// all of it is.
+#[no_mangle]
+pub extern "C" fn cxl0_convert(log: &[u8], out: &mut [u8]) -> u64
+    ensures { λ r. ⌜ r ≡ packConverted (told (conversion (now (log .entry)) (now (out .entry)))) ⌝ }
+    ensures { λ r. ⌜ now (out .exit) ≡ written (conversion (now (log .entry)) (now (out .entry))) (now (out .entry)) ⌝ }
+{
+    pack_converted(convert(log, out))
 }
 
 // Replays a log with the schedule of a verdict file that says allowed.

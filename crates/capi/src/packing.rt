@@ -1,4 +1,5 @@
 // Answers as numbers of 64 bits.
+use converter::Converted;
 use fields::Refusal;
 use fields::refusals::number_of;
 use judge::Judged;
@@ -11,10 +12,11 @@ ghost use Prim.Native.Nat.{_+_, _*_, _^_, _<_};
 ghost use Rattle.fields.specs.Refusals.{numberOf};
 ghost use Rattle.reader.specs.Answers as reader;
 ghost use Rattle.recorder.specs.Recording as recorder;
+ghost use Rattle.converter.specs.Converting as converting;
 ghost use Rattle.replay.specs.Answers as replay;
 ghost use Rattle.judge.specs.Judging as judging;
-ghost use Rattle.capi.specs.Packing.{packRecorded, packSummary, packReplayed, packJudged};
-ghost use Rattle.capi.specs.Packing.{RecordedFits, JudgedFits};
+ghost use Rattle.capi.specs.Packing.{packRecorded, packSummary, packConverted, packReplayed, packJudged};
+ghost use Rattle.capi.specs.Packing.{RecordedFits, ConvertedFits, JudgedFits};
 
 // A refusal: its number alone.
 fn refusal(why: Refusal) -> u64
@@ -23,7 +25,7 @@ fn refusal(why: Refusal) -> u64
     number_of(why) as u64
 }
 
-// A new count of used bytes.
+// A new count of used bytes, or the length of a log.
 fn count(used: usize) -> u64
     requires { ⌜ used < 2 ^ 32 ⌝ }
     ensures { λ r. ⌜ r ≡ used * 2 ^ 8 ⌝ }
@@ -56,6 +58,17 @@ pub(crate) fn pack_reading(answer: Reading) -> u64
     match answer {
         Reading::Accepted(head) => summary(head),
         Reading::Refused(why) => refusal(why),
+    }
+}
+
+// What a conversion comes to.
+pub(crate) fn pack_converted(answer: Converted) -> u64
+    requires { ⌜ ConvertedFits (converting.answerOf answer) ⌝ }
+    ensures { λ r. ⌜ r ≡ packConverted (converting.answerOf answer) ⌝ }
+{
+    match answer {
+        Converted::Length(len) => count(len),
+        Converted::Refused(why) => refusal(why),
     }
 }
 
