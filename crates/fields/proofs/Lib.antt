@@ -1,4 +1,5 @@
 pub mod Numbers
+pub mod Editions
 pub mod Payloads
 pub mod Frames
 pub mod Put
