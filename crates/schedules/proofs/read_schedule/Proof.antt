@@ -12,7 +12,7 @@ use borrow.Author.Needs.{needs}
 use borrow.Author.Tests.{not-true, not-false}
 use Rattle.model.specs.Cxl0.{Topology}
 use Rattle.model.specs.Meaning.{topologyOf}
-use Rattle.verdict_file.proofs.Put.{part-drop}
+use Rattle.fields.proofs.Put.{part-drop}
 use Rattle.schedules.specs.Answers.{stepOf, stepAtOf}
 use Rattle.schedules.specs.Schedules.{stepAt, saysAllowed, readSchedule, counted}
 use Rattle.schedules.proofs.Fields.{long-header}

@@ -10,7 +10,7 @@ use denote.Ref.{now}
 use borrow.Author.Needs.{needs}
 use borrow.Author.Tests.{not-true, not-false}
 use borrow.Rule.Slice.PartMut.{midOf}
-use Rattle.verdict_file.proofs.Put.{part-drop}
+use Rattle.fields.proofs.Put.{part-drop}
 use Rattle.schedules.specs.Schedules.{begins, firstStep, stepAt}
 use Rattle.schedules.proofs.Fields.{long}
 use Rattle.schedules.proofs.step_at.Statement.{statement}
