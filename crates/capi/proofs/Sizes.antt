@@ -6,6 +6,7 @@ use mathlib.Core.Bool.{Bool, true, false}
 use mathlib.Core.List.{List}
 use Rattle.log.specs.Records.{Records}
 use Rattle.log.specs.Reading.{Log, accepted, rejected, readLog}
+use Rattle.log.proofs.Lengths.{longest}
 use Rattle.recorder.specs.Recording.{Recorded, count, rejected, recorded}
 use Rattle.recorder.proofs.Counts.{count-most}
 use Rattle.verdict_file.specs.Files.{Verdict, allowed, impossible}
@@ -17,7 +18,7 @@ use Rattle.capi.specs.Packing.{RecordedFits, JudgedFits}
 -- A new count of used bytes is within the longest log, so it fits 32 bits.
 pub recorded-fits : (buf : List ℕ) (used tag : ℕ) (p : List ℕ) (a : Recorded) → a ≡ recorded buf used tag p
     → RecordedFits a
-recorded-fits buf used tag p (count n) e = omega (arith, count-most buf used tag p n (sym e))
+recorded-fits buf used tag p (count n) e = omega (arith, count-most buf used tag p n (sym e), longest)
 recorded-fits buf used tag p (Recorded.rejected number) e = tt
 
 -- A right verdict has at most 256 steps and 1,544 bytes, so both fit 16 bits.

@@ -2,6 +2,7 @@
 use Prim.Native.Nat.{ℕ, _/_, _%_, _^_, _<_}
 use native.Mathlib.Omega.{arith}
 use mathlib.Core.Path.{_≡_}
+use Rattle.fields.specs.declared.Edition.{Edition}
 use Rattle.reader.specs.Answers.{holds}
 use Rattle.recorder.specs.Recording.{count}
 use Rattle.replay.specs.Replaying.{no}
@@ -17,10 +18,10 @@ pub recorded-parts : (n : ℕ) → n < 2 ^ 32
     (bits 0 8 p ≡ 0) × (bits 8 32 p ≡ n)
 recorded-parts n l = (omega arith, omega arith)
 
-pub summary-parts : (n q x e : ℕ) → n < 2 ^ 8 → x < 2 ^ 8 → e < 2 ^ 8
-    → let p = packSummary (holds n q x e) in
+pub summary-parts : (d : Edition) (n q x e : ℕ) → n < 2 ^ 8 → x < 2 ^ 8 → e < 2 ^ 8
+    → let p = packSummary (holds d n q x e) in
     (bits 0 8 p ≡ 0) × (bits 8 8 p ≡ n) × (bits 16 8 p ≡ x) × (bits 24 8 p ≡ e)
-summary-parts n q x e l m k = (omega arith, omega arith, omega arith, omega arith)
+summary-parts d n q x e l m k = (omega arith, omega arith, omega arith, omega arith)
 
 pub no-parts : (n : ℕ) → n < 2 ^ 8
     → let p = packReplayed (no n) in
