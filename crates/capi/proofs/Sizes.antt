@@ -5,21 +5,33 @@ use mathlib.Core.Path.{_≡_, refl, sym}
 use mathlib.Core.Bool.{Bool, true, false}
 use mathlib.Core.List.{List}
 use Rattle.log.specs.Records.{Records}
+use Rattle.log.specs.Bytes.{Bytes}
 use Rattle.log.specs.Reading.{Log, accepted, rejected, readLog}
 use Rattle.log.proofs.Lengths.{longest}
 use Rattle.recorder.specs.Recording.{Recorded, count, rejected, recorded}
 use Rattle.recorder.proofs.Counts.{count-most}
+use Rattle.converter.specs.Converting as converting
+use Rattle.converter.specs.Converting.{conversion}
+use Rattle.converter.proofs.Answered.{told-gives, conversion-most}
 use Rattle.verdict_file.specs.Files.{Verdict, allowed, impossible}
 use Rattle.verdict_file.proofs.Files.{length-impossible, short}
 use Rattle.replay.proofs.Demand2.{yes-few}
 use Rattle.judge.specs.Judging.{Outcome, refusal, told, verdict, areasFit, Right, JudgesLog, Judges}
-use Rattle.capi.specs.Packing.{RecordedFits, JudgedFits}
+use Rattle.capi.specs.Packing.{RecordedFits, ConvertedFits, JudgedFits}
 
 -- A new count of used bytes is within the longest log, so it fits 32 bits.
 pub recorded-fits : (buf : List ℕ) (used tag : ℕ) (p : List ℕ) (a : Recorded) → a ≡ recorded buf used tag p
     → RecordedFits a
 recorded-fits buf used tag p (count n) e = omega (arith, count-most buf used tag p n (sym e), longest)
 recorded-fits buf used tag p (Recorded.rejected number) e = tt
+
+-- The length of a converted log is within the longest log, so it fits 24 bits.
+pub converted-fits : (s out : List ℕ) → Bytes s → (a : converting.Answer) → a ≡ converting.told (conversion s out)
+    → ConvertedFits a
+converted-fits s out b (converting.gives len) e =
+    let (t, same, long) = told-gives (conversion s out) len (sym e) in
+    omega (arith, conversion-most s out t b same, long)
+converted-fits s out b (converting.Answer.refused number) e = tt
 
 -- A right verdict has at most 256 steps and 1,544 bytes, so both fit 16 bits.
 told-fits : (s : List ℕ) (r : Records) (v : Verdict) → Right s r v → JudgedFits (told v)
