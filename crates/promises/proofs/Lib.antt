@@ -2,5 +2,6 @@ pub mod Readings
 pub mod Recordings
 pub mod Verdicts
 pub mod Judgements
+pub mod Conversions
 pub mod Earlier
 pub mod Promises

@@ -18,6 +18,8 @@ use Rattle.model.specs.Schedule.{Step, weave, schedule, inOrder}
 use Rattle.model.specs.MarkedLogs.{MarkedLog, logs}
 use Rattle.model.specs.MarkedLogs as marked
 use Rattle.model.proofs.Theorems
+use Rattle.fields.specs.declared.Edition.{Edition}
+use Rattle.fields.specs.declared.Edition.the-variants.{Second}
 use Rattle.log.specs.Records.{Records, systemOf, WithinLimits}
 use Rattle.log.specs.Bytes.{Bytes, field, encode, ShortRows, NoKindBytes}
 use Rattle.log.specs.Reading.{Given, Outcome, nothing, admit, readFields, accepted, rejected, readLog}
@@ -29,6 +31,10 @@ use Rattle.recorder.specs.Recording as recording
 use Rattle.recorder.specs.Recording.{Call, Handed, recordedOf, Sequence}
 use Rattle.recorder.specs.declared.Recorded.{Recorded}
 use Rattle.recorder.proofs.Sequences
+use Rattle.converter.specs.Values.{values}
+use Rattle.converter.specs.Converting as converting
+use Rattle.converter.specs.Converting.{other, inEdition, Converts}
+use Rattle.converter.specs.declared.Converted.{Converted}
 use Rattle.verdict_file.specs.Files.{Verdict, allowed, impossible, fileOf}
 use Rattle.replay.specs.Replaying as replaying
 use Rattle.replay.specs.Replaying.{Stops, Admitted, replayLog}
@@ -36,10 +42,12 @@ use Rattle.replay.specs.Answers as replay
 use Rattle.replay.specs.declared.Replayed.{Replayed}
 use Rattle.replay.proofs.Demand2
 use Rattle.scratch.specs.Clearing.{zeros}
+use Rattle.judge.specs.Judging as judging
 use Rattle.judge.specs.Judging.{Answer, gives, refused, answerOf, outcomeOf, told, areasFit, Judges}
 use Rattle.judge.specs.declared.Judged.{Judged}
 use Rattle.promises.proofs.Readings
 use Rattle.promises.proofs.Recordings
+use Rattle.promises.proofs.Conversions
 use Rattle.promises.proofs.Judgements
 use Rattle.promises.proofs.Earlier
 
@@ -57,15 +65,17 @@ module _ (s : List ℕ) (a : Reading) (answered : read.meaningOf a ≡ read.summ
   pub read-refused : (number : ℕ) → readLog s ≡ rejected number → read.meaningOf a ≡ read.refused number
   read-refused = Readings.read-refused s a answered
 
-  -- An accepted one gives its machines, which of them are persistent, and how many locations and events it has.
+  -- An accepted one gives its edition, its machines, which of them are persistent, and how many locations and events
+  -- it has.
   pub read-accepted : (r : Records) → readLog s ≡ accepted r
-      → read.meaningOf a ≡ read.holds (r .machines) (r .persistent) (length (r .homes)) (length (r .events))
+      → read.meaningOf a
+      ≡ read.holds (r .edition) (r .machines) (r .persistent) (length (r .homes)) (length (r .events))
   read-accepted = Readings.read-accepted s a answered
 
   -- The answer is no refusal exactly for the encodings of records within the limits.
   pub read-exactly : Bytes s
-      → ((machines persistent locations events : ℕ)
-      × (read.meaningOf a ≡ read.holds machines persistent locations events))
+      → ((edition : Edition) × (machines persistent locations events : ℕ)
+      × (read.meaningOf a ≡ read.holds edition machines persistent locations events))
       ↔ ((r : Records) × WithinLimits r × (encode r ≡ s))
   read-exactly = Readings.read-exactly s a answered
 
@@ -113,6 +123,36 @@ module _ (buf : List ℕ) (used tag : ℕ) (payload : List ℕ) (a : Recorded) (
         pub record-no-room : length buf < used + 3 + length payload → recording.answerOf a ≡ recording.rejected 1
         record-no-room = Recordings.record-no-room buf used tag payload a buf' call inside r so-far stands
 
+-- What `convert` answered, and the output afterwards, as its contract ensures them.
+module _ (s out : List ℕ) (a : Converted) (out' : List ℕ) (call : Converts s out a out') where
+  -- A refusal leaves every byte of the output as it was.
+  pub convert-untouched : (number : ℕ) → converting.answerOf a ≡ converting.Answer.refused number → out' ≡ out
+  convert-untouched = Conversions.convert-untouched s out a out' call
+
+  -- An output of fewer than 4,096 bytes gives 1, whatever the log.
+  pub convert-short : length out < 4096 → converting.answerOf a ≡ converting.Answer.refused 1
+  convert-short = Conversions.convert-short s out a out' call
+
+  module _ (enough : 4096 ≤ length out) where
+    -- A refused log gives its number.
+    pub convert-refused : (number : ℕ) → readLog s ≡ rejected number
+        → converting.answerOf a ≡ converting.Answer.refused number
+    convert-refused = Conversions.convert-refused s out a out' call enough
+
+    module _ (b : Bytes s) (r : Records) (read : readLog s ≡ accepted r) where
+      -- An accepted one gives 17 exactly where it is of edition 2 and a value in it is over 65,535, an initial one or one
+      -- that an event stores or reads.
+      pub convert-too-large : (converting.answerOf a ≡ converting.Answer.refused 17)
+          ↔ ((r .edition ≡ Second) × ((v : Value) × List·Memᴰ v (values r) × (65535 < v)))
+      convert-too-large = Conversions.convert-too-large s out a out' call enough b r read
+
+      -- Otherwise the bytes of the same records in the other edition stand at the front of the output, and the answer is
+      -- their length; the rest is as it was.
+      pub convert-writes : ¬ (converting.answerOf a ≡ converting.Answer.refused 17)
+          → let t = encode (inEdition (other (r .edition)) r) in
+          (converting.answerOf a ≡ converting.gives (length t)) × (out' ≡ t ++ drop (length t) out)
+      convert-writes = Conversions.convert-writes s out a out' call enough b r read
+
 -- What `judge` answered, and the areas afterwards, as its contract ensures them.
 module _ (s out : List ℕ) (offset : ℕ) (scratch : List ℕ) (j : Judged) (out' scratch' : List ℕ)
     (judged : Judges s out offset scratch (outcomeOf j out' scratch')) where
@@ -150,6 +190,29 @@ one-form = OneForm.one-form
 pub recorded-read : {buf buf' : List ℕ} {used : ℕ} {hs : List Handed} → Sequence buf 0 hs buf' used
     → readLog (take used buf') ≡ accepted (recordedOf hs)
 recorded-read = Sequences.recorded-read
+
+-- Where `convert` gives a length, so many bytes of the output are the log in the other edition.
+module _ (s out : List ℕ) (a : Converted) (out' : List ℕ) (call : Converts s out a out') (b : Bytes s) (len : ℕ)
+    (converted : converting.answerOf a ≡ converting.gives len) where
+  -- They are read as the same records in the other edition.
+  pub converted-read : (r : Records) → readLog s ≡ accepted r
+      → readLog (take len out') ≡ accepted (inEdition (other (r .edition)) r)
+  converted-read = Conversions.converted-read s out a out' call b len converted
+
+  -- There and back gives the same bytes.
+  pub converted-back : (back : List ℕ) (c : Converted) (back' : List ℕ) → Converts (take len out') back c back'
+      → 4096 ≤ length back
+      → (converting.answerOf c ≡ converting.gives (length s)) × (back' ≡ s ++ drop (length s) back)
+  converted-back = Conversions.converted-back s out a out' call b len converted
+
+  -- Replay gives the same answer in both editions, whatever the file,
+  pub converted-replayed : (f : List ℕ) → replayLog (take len out') f ≡ replayLog s f
+  converted-replayed = Conversions.converted-replayed s out a out' call b len converted
+
+  -- and so does the judge: what it may answer and write is the same. Only the schedule is left to it, in either edition.
+  pub converted-judged : (area : List ℕ) (offset : ℕ) (scratch : List ℕ) (o : judging.Outcome)
+      → Judges (take len out') area offset scratch o ↔ Judges s area offset scratch o
+  converted-judged = Conversions.converted-judged s out a out' call b len converted
 
 -- What `replay` answered, as its contract ensures it.
 module _ (s f : List ℕ) (a : Replayed) (replayed : replay.answerOf a ≡ replayLog s f) where
@@ -264,6 +327,27 @@ module _ (s out : List ℕ) (offset : ℕ) (scratch : List ℕ) (j : Judged) (ou
   pub impossible-file : (e len : ℕ) → answerOf j ≡ gives 0 e 0 len
       → take len (drop offset out') ≡ fileOf (impossible e)
   impossible-file = Judgements.impossible-file s out offset scratch j out' scratch' judged fit r read
+
+-- What `judge` answered to a log and to what `convert` made of it, with areas that fit.
+module _ (s out : List ℕ) (a : Converted) (out' : List ℕ) (call : Converts s out a out') (b : Bytes s) (len : ℕ)
+    (converted : converting.answerOf a ≡ converting.gives len)
+    (area : List ℕ) (offset : ℕ) (scratch : List ℕ) (j : Judged) (area' scratch' : List ℕ)
+    (first : Judges s area offset scratch (outcomeOf j area' scratch')) (fit : areasFit area offset scratch ≡ true)
+    (room : List ℕ) (at : ℕ) (words : List ℕ) (k : Judged) (room' words' : List ℕ)
+    (second : Judges (take len out') room at words (outcomeOf k room' words'))
+    (fits : areasFit room at words ≡ true) where
+  -- The verdict is the same in both editions: allowed in one exactly where in the other, impossible at the same event.
+  pub same-allowed : ((steps len : ℕ) × (answerOf j ≡ gives 1 0 steps len))
+      ↔ ((steps len : ℕ) × (answerOf k ≡ gives 1 0 steps len))
+  same-allowed =
+      Conversions.same-allowed s out a out' call b len converted
+      area offset scratch j area' scratch' first fit room at words k room' words' second fits
+
+  pub same-impossible : (e : ℕ)
+      → ((len : ℕ) × (answerOf j ≡ gives 0 e 0 len)) ↔ ((len : ℕ) × (answerOf k ≡ gives 0 e 0 len))
+  same-impossible =
+      Conversions.same-impossible s out a out' call b len converted
+      area offset scratch j area' scratch' first fit room at words k room' words' second fits
 
 -- In every run the silent steps number at most twice the stores and once the loads.
 pub bound : (sys : Topology) → WellFormed sys → (acts : List Action) → Run sys acts

@@ -3,14 +3,14 @@
 -- thing not possible.
 use Prim.Native.Nat.{ℕ, _≤_}
 use native.Mathlib.Omega.{arith}
-use mathlib.Core.Path.{_≡_, refl, sym, ap, _∙_}
+use mathlib.Core.Path.{_≡_, refl, sym, ap, ap₂, _∙_}
 use mathlib.Core.Logic.{_↔_}
 use mathlib.Core.Bool.{_&&_}
 use mathlib.Core.List.{List}
 use mathlib.Core.Option.{Option, none, some, Option·none-ne-some}
 use lib.Dec.{T, leb, leb→le}
 use lib.ListN.{length}
-use Rattle.model.specs.Cxl0.{Topology, start, Run}
+use Rattle.model.specs.Cxl0.{Topology, start, Event, Run}
 use Rattle.model.specs.Schedule.{Step, weave, inOrder}
 use Rattle.model.proofs.Tests.{and-l}
 use Rattle.log.specs.Records.{Records, systemOf}
@@ -144,3 +144,21 @@ yes-few s ps e =
     let ordered = and-l (short && inOrder 0 n qs) (everyStepFits (systemOf r) qs) (admitted .fits) in
     let few = leb→le (length qs) stepsMost (and-l short (inOrder 0 n qs) ordered) in
     omega (arith, ap length (admitted .file), length-allowed ps, length-allowed qs, few)
+
+-- Logs of the same system with the same events are replayed alike, whatever the file.
+pub same-replay : (s t : List ℕ) (r q : Records) → readLog s ≡ accepted r → readLog t ≡ accepted q
+    → systemOf q ≡ systemOf r → q .events ≡ r .events → (f : List ℕ) → replayLog t f ≡ replayLog s f
+unfolding replayLog
+same-replay s t r q read reads system events f =
+    let by : Topology → List Event → Answer =
+    λ (sys : Topology) (es : List Event). replayedWith sys es (readSchedule sys (length es) f) in
+    let said : Records → Option (List Step) = λ p. readSchedule (systemOf p) (length (p .events)) f in
+    rw (read, reads) (by-parts q (said q) ∙ ap₂ by system events ∙ sym (by-parts r (said r)))
+  where
+    replayedWith : Topology → List Event → Option (List Step) → Answer
+    replayedWith sys es none = Answer.refused 13
+    replayedWith sys es (some ps) = replayed sys es ps
+
+    by-parts : (r : Records) (o : Option (List Step)) → withSchedule r o ≡ replayedWith (systemOf r) (r .events) o
+    by-parts r none = refl
+    by-parts r (some ps) = refl
