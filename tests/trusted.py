@@ -18,8 +18,8 @@ sys.path.insert(0, str(ROOT / "tools"))
 import antt  # noqa: E402
 PAGE = ROOT / "docs" / "TRUSTED.md"
 PROMISES = ROOT / "crates" / "promises" / "proofs" / "Promises.antt"
-# The public calls: those of document 01, and the same for C.
-CALLS = [("reader", "read"), ("recorder", "record"), ("replay", "replay"), ("judge", "judge")]
+# The public calls: those of documents 01 and 02, and the same for C.
+CALLS = [("reader", "read"), ("recorder", "record"), ("converter", "convert"), ("replay", "replay"), ("judge", "judge")]
 FOR_C = "capi"
 BEGIN, END = "<!-- tests/trusted.py writes from here -->", "<!-- to here -->"
 WORD = re.compile(r"\|\||\[\]|[^\s(){}\[\],;|⌜⌝]+")

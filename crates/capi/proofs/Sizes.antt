@@ -30,7 +30,7 @@ pub converted-fits : (s out : List ℕ) → Bytes s → (a : converting.Answer) 
     → ConvertedFits a
 converted-fits s out b (converting.gives len) e =
     let (t, same, long) = told-gives (conversion s out) len (sym e) in
-    omega (arith, conversion-most s out t b same, long)
+    omega (arith, conversion-most s out t b same, longest, long)
 converted-fits s out b (converting.Answer.refused number) e = tt
 
 -- A right verdict has at most 256 steps and 1,544 bytes, so both fit 16 bits.

@@ -40,8 +40,8 @@ pub extern "C" fn cxl0_read(log: &[u8]) -> u64
     pack_reading(read(log))
 }
 
-// Writes a log in the other edition from the output's first byte on. The rest of the output is as it was; after a refusal
-// all of it is.
+// Writes a log in the other edition from the output's first byte on. The rest of the output is as it was; after a
+// refusal all of it is.
 #[no_mangle]
 pub extern "C" fn cxl0_convert(log: &[u8], out: &mut [u8]) -> u64
     ensures { λ r. ⌜ r ≡ packConverted (told (conversion (now (log .entry)) (now (out .entry)))) ⌝ }

@@ -77,24 +77,30 @@ pub initial-nowhere : (sys : Topology) (x : Location) → isLocation sys x ≡ f
 unfolding initial
 initial-nowhere sys x e = ap (λ (h : Home). h .initial) (sym (at-nowhere sys x e))
 
--- The owners from location x on fit if that of x does and those of the rest do.
+-- The locations from number x on: none from the count on, and before it the one in the array and then the rest.
 module _ (t : topology.Topology) (room : length (t .homes) ≡ 32) (few : t .locations ≤ 32) where
   homes-count : length (topologyOf t .homes) ≡ t .locations
   unfolding topologyOf
   homes-count = simp (length-map, length-take, room) (omega arith)
 
+  pub homes-end : (x : ℕ) → t .locations ≤ x → drop x (topologyOf t .homes) ≡ []
+  homes-end x h = drop-of-length-le (topologyOf t .homes) {i = x} (rw homes-count h)
+
+  pub homes-more : (x : ℕ) → x < t .locations
+      → drop x (topologyOf t .homes) ≡ homeOf (getD (t .homes) x noHome) ∷ drop (x + 1) (topologyOf t .homes)
+  homes-more x h = rw (add-one x, home-at t x h) (drop-cons (topologyOf t .homes) x nowhere (rw homes-count h))
+
+  -- Their owners fit if that of x does and those of the rest do.
   pub fit-end : (x : ℕ) → t .locations ≤ x → ownersFit (t .machines) (drop x (topologyOf t .homes)) ≡ true
   unfolding ownersFit
-  fit-end x h = rw (drop-of-length-le (topologyOf t .homes) {i = x} (rw homes-count h))
+  fit-end x h = rw (homes-end x h)
 
   pub fit-more : (x : ℕ) → x < t .locations
       → (b : Bool) → isMachine (topologyOf t) (getD (t .homes) x noHome .owner .0) ≡ b
       → ownersFit (t .machines) (drop x (topologyOf t .homes))
       ≡ (b && ownersFit (t .machines) (drop (x + 1) (topologyOf t .homes)))
-  unfolding ownersFit owner isMachine topologyOf
-  fit-more x h b e =
-      let first = drop-cons (topologyOf t .homes) x nowhere (rw homes-count h) in
-      rw (← e, first, add-one x, owner-at t x h)
+  unfolding ownersFit isMachine topologyOf
+  fit-more x h b e = rw (← e, homes-more x h)
 
 -- One of owners that fit fits.
 owner-fits : (n : ℕ) (hs : List Home) → T (ownersFit n hs) → (x : ℕ) → x < length hs

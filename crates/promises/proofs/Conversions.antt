@@ -1,5 +1,5 @@
--- What the converter's contract says of its answer and of the output afterwards, and what a log and its form in the other
--- edition have in common.
+-- What the converter's contract says of its answer and of the output afterwards, and what a log and its form in the
+-- other edition have in common.
 use Prim.Native.Nat.{ℕ, _≤_, _<_}
 use mathlib.Core.Path.{_≡_, refl, sym, ap, _∙_, subst}
 use mathlib.Core.Logic.{_↔_}

@@ -140,14 +140,14 @@ module _ (s out : List ℕ) (a : Converted) (out' : List ℕ) (call : Converts s
     convert-refused = Conversions.convert-refused s out a out' call enough
 
     module _ (b : Bytes s) (r : Records) (read : readLog s ≡ accepted r) where
-      -- An accepted one gives 17 exactly where it is of edition 2 and a value in it is over 65,535, an initial one or one
-      -- that an event stores or reads.
+      -- An accepted one gives 17 exactly where it is of edition 2 and a value in it is over 65,535, an initial one or
+      -- one that an event stores or reads.
       pub convert-too-large : (converting.answerOf a ≡ converting.Answer.refused 17)
           ↔ ((r .edition ≡ Second) × ((v : Value) × List·Memᴰ v (values r) × (65535 < v)))
       convert-too-large = Conversions.convert-too-large s out a out' call enough b r read
 
-      -- Otherwise the bytes of the same records in the other edition stand at the front of the output, and the answer is
-      -- their length; the rest is as it was.
+      -- Otherwise the bytes of the same records in the other edition stand at the front of the output, and the answer
+      -- is their length; the rest is as it was.
       pub convert-writes : ¬ (converting.answerOf a ≡ converting.Answer.refused 17)
           → let t = encode (inEdition (other (r .edition)) r) in
           (converting.answerOf a ≡ converting.gives (length t)) × (out' ≡ t ++ drop (length t) out)
@@ -209,7 +209,7 @@ module _ (s out : List ℕ) (a : Converted) (out' : List ℕ) (call : Converts s
   pub converted-replayed : (f : List ℕ) → replayLog (take len out') f ≡ replayLog s f
   converted-replayed = Conversions.converted-replayed s out a out' call b len converted
 
-  -- and so does the judge: what it may answer and write is the same. Only the schedule is left to it, in either edition.
+  -- and so does the judge: what it may answer and write is the same. Only the schedule is left to it in either.
   pub converted-judged : (area : List ℕ) (offset : ℕ) (scratch : List ℕ) (o : judging.Outcome)
       → Judges (take len out') area offset scratch o ↔ Judges s area offset scratch o
   converted-judged = Conversions.converted-judged s out a out' call b len converted

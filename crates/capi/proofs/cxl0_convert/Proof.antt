@@ -13,7 +13,8 @@ pack-converted-requires : tie.Need-pack-converted-requires
 pack-converted-requires c κs =
     let a = c .before .before in
     let known = a .before .before .before in
-    let bytes = bytes-by-index (now (known .before .args .log)) (λ i. omega (arith, known .shared-slice-known .given i)) in
+    let bytes =
+    bytes-by-index (now (known .before .args .log)) (λ i. omega (arith, known .shared-slice-known .given i)) in
     converted-fits _ _ bytes _ (a .convert .ensures .0)
 
 returns : tie.Need-returns
