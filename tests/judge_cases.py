@@ -1,30 +1,14 @@
 #!/usr/bin/env python3
-"""Prints the judge's cases of crates/cases/stdin: logs in the byte form of document 01, each with the areas that it is
-judged in. A case is a line `j NAME LOG OUTPUT OFFSET SCRATCH`, and a comment above it says what is to come out."""
+"""Prints the judge's cases of crates/cases/stdin: logs in the byte form of document 01 and its requests, each with the
+areas that it is judged in. A case is a line `j NAME LOG OUTPUT OFFSET SCRATCH`, and a comment above it says what is to
+come out."""
+from format_reference import whole
+from log_bytes import END, PERSISTENT, VOLATILE, encode, event, field, head, row
+from log_bytes import log as bytes_of
 
 LSTORE, RSTORE, MSTORE, LOAD, LFLUSH, RFLUSH, CRASH, LRMW, RRMW, MRMW, SETCRASH = range(1, 12)
-VOLATILE, PERSISTENT = 1, 2  # kinds of memory
 LONGEST = 1544  # bytes of a verdict file
 WORDS = 4096  # the fewest numbers of a scratch area
-
-
-def field(tag, *payload):
-    return bytes([tag, len(payload) % 256, len(payload) // 256, *payload])
-
-
-def head(machines, persistent):
-    return field(0x01, machines, persistent)
-
-
-def row(owner, initial=0, kind=0):
-    """An initial value and a kind byte are there where they are not 0."""
-    return field(0x02, owner, *([initial % 256, initial // 256] if initial else []), *([kind] if kind else []))
-
-
-def event(operation, machine, location=0, *values):
-    """A read-modify-write where there are two values."""
-    numbers = [byte for value in values or (0,) for byte in (value % 256, value // 256)]
-    return field(0x05 if len(values) == 2 else 0x03, operation, machine, location, *numbers)
 
 
 def together(*machines):
@@ -32,20 +16,14 @@ def together(*machines):
     return SETCRASH, 0, sum(1 << machine - 1 for machine in machines)
 
 
-END = field(0x04)
-
-
 def kind_of(persistent):
     return PERSISTENT if persistent else VOLATILE
 
 
-def log(homes, events, machines=3, persistent=None):
-    """The log of a system with these homes, an owner or an owner, an initial value and a kind each; all machines are
-    persistent unless said."""
+def log(homes, events, machines=3, persistent=None, edition=1):
+    """The log of a system with these homes and events; all machines are persistent unless said."""
     everyone = (1 << machines) - 1
-    kinds = everyone if persistent is None else persistent
-    rows = b"".join(row(*home) if isinstance(home, tuple) else row(home) for home in homes)
-    return head(machines, kinds) + rows + b"".join(event(*e) for e in events) + END
+    return bytes_of(machines, everyone if persistent is None else persistent, homes, events, edition)
 
 
 def case(name, expected, data, output=LONGEST, offset=0, scratch=WORDS):
@@ -53,7 +31,15 @@ def case(name, expected, data, output=LONGEST, offset=0, scratch=WORDS):
     print(f"j {name} {data.hex()} {output} {offset} {scratch}")
 
 
-def marked_logs():
+def in_high_half(name, expected, data):
+    """The case in edition 2 with every value in the two bytes that edition 1 has not: what is to come out stays."""
+    records = whole(data)
+    records.initial = [value << 16 for value in records.initial]
+    records.events = [(*one[:3], *(value << 16 for value in one[3:])) for one in records.events]
+    case(f"high-{name}", f"edition 2, each value times 65536: {expected}", encode(records, 2))
+
+
+def marked_logs(case=case):
     """The fourteen marked logs of document 01."""
     case("marked-1", "RStore, crash, load of 0: allowed",
          log([1], [(RSTORE, 1, 0, 1), (CRASH, 1), (LOAD, 1, 0, 0)]))
@@ -84,7 +70,7 @@ def marked_logs():
          log([2], [(LSTORE, 1, 0, 1), (LFLUSH, 1, 0), (CRASH, 2), (LOAD, 1, 0, 0)], machines=2))
 
 
-def small_logs():
+def small_logs(case=case):
     crashes = [(LSTORE, 2, 0, 5), (CRASH, 1), (CRASH, 2), (LOAD, 2, 0, 5)]
     case("one-by-one", "two crashes one after the other, the first of a volatile owner: allowed",
          log([1], crashes, machines=2, persistent=0b10))
@@ -108,7 +94,7 @@ def small_logs():
          log([1, 2, 3], [(CRASH, 1), (LOAD, 1, 1, 1), (LOAD, 1, 2, 1), (LOAD, 1, 0, 1)]))
 
 
-def rmw_logs():
+def rmw_logs(case=case):
     """Read-modify-writes: each is a load and a store, and nothing comes between."""
     outcomes = {(LRMW, 1): "allowed", (LRMW, 3): "allowed, one step", (RRMW, 1): "impossible, 3",
                 (RRMW, 3): "allowed", (MRMW, 1): "impossible, 3", (MRMW, 3): "impossible, 3"}
@@ -278,7 +264,7 @@ AFTER_CRASH = {
     ("M", True, True): ("impossible, 3", "allowed, no steps")}
 
 
-def initial_value_logs():
+def initial_value_logs(case=case):
     """Initial values: memories have them at the start, and volatile ones again after a crash of their owner."""
     for initial, others in ((7, [0]), (1, [0, 256]), (255, [65280]), (256, [1]), (0x0102, [0x0201, 2]), (65535, [0])):
         case(f"initial-{initial}", "an initial value that is read: allowed, no steps",
@@ -487,6 +473,73 @@ def kind_logs():
              log([(1, 0, kind)], back + [(LOAD, 3, 0, 1)], persistent=0b111 if kind == VOLATILE else 0))
 
 
+# A value of edition 2, and values that differ from it in one half or in one byte.
+NEAR = {65536: (0, 1), 65537: (1, 65536), 65535: (4294967295,), 4294967295: (65535, 4294901760), 1 << 31: (0,),
+        0x01020304: (0x01020305, 0x01020404, 0x01030304, 0x02020304, 0x03040102, 0x04030201)}
+
+
+def edition_logs():
+    """Edition 2: a value is equal to another where all its four bytes are."""
+    for value, others in NEAR.items():
+        for read in (value, *others):
+            def outcome(event):
+                return "allowed, no steps" if read == value else f"impossible, {event}"
+
+            for form, letter in ((LSTORE, "L"), (RSTORE, "R"), (MSTORE, "M")):
+                case(f"wide-{letter}-{value}-{read}", f"{letter}Store of {value}, load of {read}: {outcome(2)}",
+                     log([3], [(form, 1, 0, value), (LOAD, 2, 0, read)], edition=2))
+            case(f"wide-read-{value}-{read}", f"MStore of {value}, M-RMW of {read} to 0: {outcome(2)}",
+                 log([3], [(MSTORE, 1, 0, value), (MRMW, 2, 0, read, 0)], edition=2))
+            case(f"wide-written-{value}-{read}", f"L-RMW of 0 to {value}, load of {read}: {outcome(2)}",
+                 log([3], [(LRMW, 1, 0, 0, value), (LOAD, 2, 0, read)], edition=2))
+            case(f"wide-initial-{value}-{read}", f"initially {value}, load of {read}: {outcome(1)}",
+                 log([(3, value)], [(LOAD, 1, 0, read)], edition=2))
+            case(f"wide-returns-{value}-{read}", f"initially {value}, MStore of 5, crash of the volatile owner, load "
+                 f"of {read}: {outcome(3)}",
+                 log([(3, value)], [(MSTORE, 1, 0, 5), (CRASH, 3), (LOAD, 1, 0, read)], persistent=0, edition=2))
+    count = [(LRMW, 1, 0, 65534, 65535), (LRMW, 2, 0, 65535, 65536), (LRMW, 1, 0, 65536, 65537)]
+    case("wide-counter", "a counter over the edge of 16 bits: allowed, no steps", log([(3, 65534)], count, edition=2))
+    case("wide-counter-wraps", "the same, but 65535 is counted to 0 and then from 65536: impossible, 3",
+         log([(3, 65534)], [count[0], (LRMW, 2, 0, 65535, 0), count[2]], edition=2))
+    case("wide-counter-low", "the same, but the low half of 65536 is counted from: impossible, 3",
+         log([(3, 65534)], count[:2] + [(LRMW, 1, 0, 0, 1)], edition=2))
+    case("wide-counter-end", "a counter that wraps after 4294967295: allowed, no steps",
+         log([(3, 4294967294)], [(MRMW, 1, 0, 4294967294, 4294967295), (MRMW, 2, 0, 4294967295, 0), (LOAD, 1, 0, 0)],
+             edition=2))
+    for value, outcome in ((7, "allowed"), (65543, "allowed"), (131079, "allowed"), (65536, "impossible, 4"),
+                           (0, "impossible, 4"), (196615, "impossible, 4")):
+        case(f"wide-memory-{value}", f"one of several values that memory may have, their low halves alike: {outcome}",
+             log([(1, 7)], [(RSTORE, 2, 0, 65543), (RSTORE, 2, 0, 131079), (CRASH, 1), (LOAD, 3, 0, value)], edition=2))
+    copies = [(LSTORE, 1, 0, 65537), (LOAD, 2, 0, 65537), (CRASH, 1)]
+    for value, outcome in ((65537, "allowed, no steps"), (1, "impossible, 4"), (0, "impossible, 4")):
+        case(f"wide-copy-{value}", f"a copy of 65537 outlives the storing machine, load of {value}: {outcome}",
+             log([3], copies + [(LOAD, 2, 0, value)], edition=2))
+    stores = [(MSTORE, 3, x, (x + 1) << 16) for x in range(3)] + [together(1, 2)]
+    for values, outcome in (((65543, 131072, 196608), "allowed, no steps"), ((7, 131072, 196608), "impossible, 5"),
+                            ((65543, 65536, 196608), "impossible, 6"), ((65543, 131072, 65543), "impossible, 7")):
+        read = [(LOAD, 3, x, v) for x, v in enumerate(values)]
+        case(f"wide-set-{'-'.join(map(str, values))}", "volatile 1, initially 65543, and persistent 2 in the set, 3 "
+             f"outside, loads of {', '.join(map(str, values))}: {outcome}",
+             log([(1, 65543), 2, 3], stores + read, persistent=0b110, edition=2))
+    for kept, memory, owners in ((False, "volatile", 0b111), (True, "persistent", 0)):
+        for value, outcome in ((65543, "impossible, 3" if kept else "allowed, no steps"), (7, "impossible, 3"),
+                               (131079, "allowed, no steps" if kept else "impossible, 3")):
+            case(f"wide-kind-{memory}-{value}", f"{memory} memory of an owner of the other kind, initially 65543, "
+                 f"MStore of 131079, crash of the owner, load of {value}: {outcome}",
+                 log([(2, 65543, kind_of(kept))], [(MSTORE, 1, 0, 131079), (CRASH, 2), (LOAD, 3, 0, value)],
+                     persistent=owners, edition=2))
+    case("wide-steps", "values over 65,535 that are moved and written back before a flush and crashes: allowed",
+         log([2], [e for n in range(1, 21) for e in ((LSTORE, 1, 0, n << 16), (RFLUSH, 1, 0), together(1, 2),
+                                                     (LOAD, 3, 0, n << 16))], edition=2))
+    homes = [(x % 6 + 1, 0x01010101 * x + 65536, kind_of(x % 2)) for x in range(32)]
+    turns = [(LRMW, 0), (RRMW, 1), (MRMW, 2), (LRMW, 3)]
+    events = [(form, 6 - x % 6, x, homes[x][1] + n, homes[x][1] + n + 1) for form, n in turns for x in range(32)]
+    last = homes[31][1] + 3
+    for name, read, outcome in (("", last, "allowed"), ("-low", last % 65536, "impossible, 128")):
+        case(f"wide-longest{name}", f"32 initial values and kinds and 128 read-modify-writes, 2,088 bytes: {outcome}",
+             log(homes, events[:-1] + [(LRMW, 5, 31, read, 0)], machines=6, persistent=0b010101, edition=2))
+
+
 def full(last, initial=(0,) * 32, differs=(False,) * 32):
     """128 events on 32 locations of six machines, three of them volatile: each location is stored, read elsewhere, put
     through a crash of every machine, read again and flushed; the last event is as given."""
@@ -560,7 +613,8 @@ def refusals():
     case("refused-2", "an empty file: number 2", b"")
     case("refused-2-cut", "a payload that is not whole: number 2", head(3, 7)[:-1])
     case("refused-2-end", "no end field: number 2", good[:-3])
-    case("refused-3", "an unknown tag: number 3", head(3, 7) + field(0x06) + END)
+    case("refused-3", "an unknown tag: number 3", head(3, 7) + field(0x07) + END)
+    case("refused-3-edition", "a 06 that is not the first field: number 3", head(3, 7) + field(0x06) + END)
     case("refused-3-first", "no head: number 3", row(1) + END)
     case("refused-4", "a location of length 5: number 4", head(3, 7) + field(0x02, 1, 7, 0, VOLATILE, 0) + END)
     case("refused-4-rmw", "a read-modify-write of length 5: number 4", head(3, 7) + field(0x05, 8, 1, 0, 0, 0) + END)
@@ -632,6 +686,43 @@ def refusals():
          log([1], [(LOAD, 1, 0, 1), (SETCRASH, 0, 0)]))
 
 
+def edition_refusals():
+    """What is refused in edition 2."""
+    first = head(3, 7, 2)
+    good = log([1], [(RSTORE, 1, 0, 65536)], edition=2)
+    case("wide-refused-2", "no end field: number 2", good[:-3])
+    case("wide-refused-2-value", "an event without the last byte of its value: number 2", good[:-4])
+    case("wide-refused-3", "a second 06: number 3", first + first + END)
+    case("wide-refused-3-first", "a 01 after the 06: number 3", first + head(3, 7) + END)
+    for name, one in (("initial", row(1, 7)), ("kind", row(1, 7, VOLATILE)), ("event", event(CRASH, 1)),
+                      ("rmw", event(LRMW, 1, 0, 0, 0))):
+        case(f"wide-refused-4-{name}", "a field of edition 1 after the 06: number 4", first + row(1) + one + END)
+    for name, one in (("initial", row(1, 7, edition=2)), ("kind", row(1, 7, VOLATILE, 2)),
+                      ("event", event(CRASH, 1, edition=2)), ("rmw", event(LRMW, 1, 0, 0, 0, edition=2))):
+        case(f"narrow-refused-4-{name}", "a field of edition 2 after the 01: number 4", head(3, 7) + row(1) + one + END)
+    case("wide-refused-5", "no machines: number 5", head(0, 0, 2) + END)
+    case("wide-refused-6", "owner 4 of 3 with initial value 0 and kind 0: number 6",
+         first + field(2, 4, *[0] * 5) + END)
+    case("wide-refused-7", "a 129th event: number 7", log([1], [(LSTORE, 1, 0, 65536)] * 129, edition=2))
+    case("wide-refused-7-locations", "a 33rd location: number 7", log([(1, 65536)] * 33, [], edition=2))
+    case("wide-refused-8", "operation 0 after an impossible event: number 8",
+         log([1], [(LOAD, 1, 0, 65536), (0, 1)], edition=2))
+    case("wide-refused-9", "machine 4 of 3: number 9", log([1], [(LOAD, 4, 0, 65536)], edition=2))
+    case("wide-refused-10", "location 1 of 1: number 10", log([1], [(LOAD, 1, 1, 65536)], edition=2))
+    for n in range(4):
+        case(f"wide-refused-11-{n + 1}", f"a crash with byte {n + 1} of its value: number 11",
+             log([1], [(CRASH, 1, 0, 1 << 8 * n)], edition=2))
+    case("wide-refused-12", "a byte after the end: number 12", good + b"\0")
+    case("wide-refused-14", "initial value 0, before its kind 0: number 14", first + field(2, 1, *[0] * 5) + END)
+    case("wide-refused-15", "a set crash of one machine, before its value: number 15",
+         log([1], [(SETCRASH, 0, 4, 65536)], edition=2))
+    case("wide-refused-16", "initial value 65536 with its owner's own kind: number 16",
+         log([(1, 65536, PERSISTENT)], [], edition=2))
+    case("wide-offset", "an offset in a larger output, and 5,000 numbers: allowed", good, 4000, 1000, 5000)
+    case("wide-output-short", "an output of 1,543 bytes: number 1", good, output=1543)
+    case("wide-scratch-short", "a short scratch area before a refused log: number 1", good[:-1], scratch=4095)
+
+
 def areas():
     good = log([2], [(LSTORE, 1, 0, 1), (RFLUSH, 1, 0)])
     bad = log([1], [(LOAD, 1, 0, 1)])
@@ -681,3 +772,7 @@ kind_logs()
 large_logs()
 refusals()
 areas()
+for logs in (marked_logs, small_logs, rmw_logs, initial_value_logs):
+    logs(in_high_half)
+edition_logs()
+edition_refusals()

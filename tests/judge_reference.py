@@ -1,9 +1,9 @@
 #!/usr/bin/env python3
 """judge_reference.py STDIN STDOUT: is STDOUT what crates/cases must print on STDIN, the judge's cases?
 
-Each log is judged anew, from document 01 and requests W-201 to W-203 and W-206 alone: a location at a time, forward,
-with every state that its silent steps can reach. A schedule that was printed is replayed on the whole system. The exit
-status is 0 only where nothing is wrong."""
+Each log is judged anew, from document 01 and requests W-201 to W-203, W-206 and W-211 alone: a location at a time,
+forward, with every state that its silent steps can reach. A schedule that was printed is replayed on the whole system.
+The exit status is 0 only where nothing is wrong."""
 import sys
 
 from format_reference import Refused, fields, members

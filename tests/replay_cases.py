@@ -1,11 +1,11 @@
 #!/usr/bin/env python3
 """`cases` prints the cases of replay in crates/cases/stdin. `answers` reads those lines and prints what the program
 must print, by a schedule reader and a replay of the whole system of its own, written from document 01 and requests
-W-201 to W-203 and W-206 alone."""
+W-201 to W-203, W-206 and W-211 alone."""
 import sys
 
-sys.dont_write_bytecode = True
-from format_reference import PERSISTENT, VOLATILE, Refused, asked, members, whole
+from format_reference import Refused, asked, members, whole
+from log_bytes import END, PERSISTENT, VOLATILE, encode, event, field, head, log, row
 
 # ---- replay
 
@@ -110,30 +110,7 @@ def answers():
 # ---- cases
 
 
-def field(tag, *payload):
-    return bytes([tag, len(payload) % 256, len(payload) // 256, *payload])
-
-
-END = field(0x04)
 ALLOWED = field(0x10, 1, 0)
-
-
-def event(operation, i, x, *values):
-    """A read-modify-write where there are two values."""
-    numbers = [byte for v in values for byte in (v % 256, v // 256)]
-    return field(0x05 if len(values) == 2 else 0x03, operation, i, x, *numbers)
-
-
-def row(owner, initial=0, kind=0):
-    """An initial value and a kind byte are there where they are not 0."""
-    return field(0x02, owner, *([initial % 256, initial // 256] if initial else []), *([kind] if kind else []))
-
-
-def log(machines, persistent, homes, events):
-    """A home is an owner, or an owner, an initial value and, if its kind is not its owner's, that."""
-    body = b"".join(row(*home) if isinstance(home, tuple) else row(home) for home in homes)
-    body += b"".join(event(*e) for e in events)
-    return field(0x01, machines, persistent) + body + END
 
 
 def file(steps):
@@ -403,6 +380,93 @@ def kind_cases():
              log(6, 0b010101, homes, every + loads[:x] + wrong), file([]))
 
 
+def second(homes, *events, persistent=7):
+    return log(3, persistent, homes, events, edition=2)
+
+
+def edition_cases():
+    for n, steps in ((4, [(1, 0, 1)]), (8, [(3, 1, 0)]), (14, [(1, 0, 1), (2, 0, 0)])):
+        changed(f"edition 2, case {n}", encode(whole(MARKED[n]), 2), steps)
+    for n, steps in ((5, [(1, 0, 1), (1, 0, 0)]), (9, []), (12, []), (13, [(2, 0, 0)])):
+        show(f"edition 2, case {n}", encode(whole(MARKED[n]), 2), file(steps))
+    for value, reads in ((65536, (65536, 0, 1)), (65543, (65543, 7, 65536)), (65535, (65535, 4294967295)),
+                         (4294967295, (4294967295, 65535, 4294901760)), (1 << 31, (1 << 31, 0)),
+                         (0x01020304, (0x01020304, 0x01020305, 0x01020404, 0x01030304, 0x02020304, 0x04030201))):
+        for read in reads:
+            show(f"edition 2, initial value {value}, a load of {read} first", second([(2, value)], (LOAD, 1, 0, read)),
+                 file([]))
+            for form, letter in ((L_STORE, "L"), (R_STORE, "R"), (M_STORE, "M")):
+                show(f"edition 2, {letter}Store of {value}, a load of {read}",
+                     second([2], (form, 1, 0, value), (LOAD, 3, 0, read)), file([]))
+            for form, letter in ((L_RMW, "L"), (R_RMW, "R"), (M_RMW, "M")):
+                show(f"edition 2, {letter}-RMW of 0 to {value}, again of {read}",
+                     second([2], (form, 1, 0, 0, value), (form, 3, 0, read, 1)), file([]))
+    crash_of_2 = (CRASH, 2, 0, 0)
+    moved = [(L_STORE, 1, 0, 65543), (R_FLUSH, 1, 0, 0), crash_of_2]
+    changed("edition 2, 65543 moved and written back over 7", second([(2, 7)], *moved, (LOAD, 3, 0, 65543)),
+            [(1, 0, 1), (1, 0, 0)])
+    for value in (65543, 7):
+        read = (LOAD, 3, 0, value)
+        show(f"edition 2, 65543 written back over 7, a load of {value}", second([(2, 7)], *moved, read),
+             file([(1, 0, 1), (1, 0, 0)]))
+        for kind, words in ((0, "volatile memory"), (PERSISTENT, "persistent memory of a volatile owner")):
+            show(f"edition 2, {words}, initially 65543, MStore of 7, crash of its owner, a load of {value}",
+                 second([(2, 65543, kind)], (M_STORE, 1, 0, 7), crash_of_2, read, persistent=0), file([]))
+    down = [(M_STORE, 3, x, 65541) for x in (0, 1)] + [together(1, 2)]
+    for values in ((65543, 131079), (131079, 65543), (7, 131079), (65543, 65541), (65541, 65541)):
+        read = [(LOAD, 3, x, v) for x, v in enumerate(values)]
+        show(f"edition 2, initially 65543 and 131079, MStores of 65541, set crash of both owners, loads of {values}",
+             second([(1, 65543), (2, 131079)], *down, *read, persistent=0), file([]))
+    count = [(L_RMW, 1 + n % 2, 0, 65530 + n, 65531 + n) for n in range(12)]
+    show("edition 2, a counter over the edge of 16 bits", second([(3, 65530)], *count), file([]))
+    show("edition 2, the same, but what is counted wraps in 16 bits",
+         second([(3, 65530)], *[(*one[:3], *(v % 65536 for v in one[3:])) for one in count]), file([]))
+    show("edition 2, the same, but what is read wraps in 16 bits",
+         second([(3, 65530)], *[(*one[:3], one[3] % 65536, one[4]) for one in count]), file([]))
+    homes = [(x % 6 + 1, x + 1 << 16, PERSISTENT if x % 2 else VOLATILE) for x in range(32)]
+    longest = [(L_RMW, 5, x, x + n << 16, x + n + 1 << 16) for n in range(1, 5) for x in range(32)]
+    steps = [step for x in range(32) if x % 6 != 4 for step in ((128, x, 5), (128, x, 0))]
+    show("edition 2, the longest log, 2,088 bytes", log(6, 0b010101, homes, longest, 2), file(steps))
+    show("edition 2, the same, its last value read as if it had 16 bits",
+         log(6, 0b010101, homes, longest[:-1] + [(L_RMW, 5, 31, 0, 0)], 2), file([]))
+
+
+def edition_refusals():
+    good, bad = file([]), b""
+    first = head(3, 7, 2)
+    for words, data in [
+            ("no end: 2", first), ("a second 06: 3", first + first + END), ("a 01 after the 06: 3", first + three([1])),
+            ("a 06 after the 01: 3", three([1])[:-3] + first + END),
+            ("an event of edition 1: 4", first + row(1) + event(LOAD, 1, 0, 0) + END),
+            ("an RMW of edition 1: 4", first + row(1) + event(L_RMW, 1, 0, 0, 0) + END),
+            ("an initial value of edition 1: 4", first + row(1, 7) + END),
+            ("an initial value and a kind of edition 1: 4", first + row(1, 7, VOLATILE) + END),
+            ("no machines: 5", head(0, 0, 2) + END), ("owner 4 of 3: 6", second([(4, 65536)])),
+            ("33 locations: 7", second([(1, 65536)] * 33)), ("129 events: 7", second([1], *[(CRASH, 1, 0, 0)] * 129)),
+            ("operation 12: 8", second([1], (12, 1, 0, 0))), ("machine 4 of 3: 9", second([1], (LOAD, 4, 0, 65536))),
+            ("a location not listed: 10", second([1], (LOAD, 1, 1, 65536))),
+            ("a crash with the last byte of a value: 11", second([1], (CRASH, 1, 0, 1 << 24))),
+            ("a byte after the end: 12", second([1]) + b"\0"),
+            ("an initial value 0: 14", first + field(0x02, 1, 0, 0, 0, 0) + END),
+            ("a set crash of one machine: 15", second([1], together(2))),
+            ("its owner's own kind: 16", second([(1, 65536, PERSISTENT)]))]:
+        show(f"edition 2, log: {words}", data, good)
+        show(f"edition 2, log, before the schedule's 13: {words}", data, bad)
+    for words, data in [
+            ("an event of edition 2: 4", three([1])[:-3] + event(LOAD, 1, 0, 0, edition=2) + END),
+            ("an RMW of edition 2: 4", three([1])[:-3] + event(L_RMW, 1, 0, 0, 0, edition=2) + END),
+            ("an initial value of edition 2: 4", three([1])[:-3] + row(1, 7, edition=2) + END),
+            ("an initial value and a kind of edition 2: 4", three([1])[:-3] + row(1, 7, VOLATILE, 2) + END)]:
+        show(f"edition 1, log: {words}", data, good)
+    it = encode(whole(MARKED[4]), 2)
+    for words, data in [
+            ("an empty file", bad), ("a log for a schedule", it), ("impossible, event 4", field(0x10, 0, 4) + END),
+            ("no end", good[:-3]), ("a byte after the end", good + b"\0"),
+            ("events before over the log's events", file([(5, 0, 1)])), ("a location not listed", file([(1, 1, 1)])),
+            ("the owner as the machine", file([(1, 0, 2)]))]:
+        show(f"edition 2, schedule: {words}: 13", it, data)
+
+
 def refused_schedules():
     it = MARKED[4]
     step = field(0x11, 1, 0, 1)
@@ -498,7 +562,7 @@ def drawn(state):
         yield state // 65536
 
 
-def drawn_cases(numbers, state, operations, read=(0, 1), written=(0, 1, 2), initial=(0,), differs=(False,)):
+def drawn_cases(numbers, state, operations, read=(0, 1), written=(0, 1, 2), initial=(0,), differs=(False,), edition=1):
     draw = drawn(state)
 
     def below(n):
@@ -533,7 +597,7 @@ def drawn_cases(numbers, state, operations, read=(0, 1), written=(0, 1, 2), init
 
         for _ in range(20):
             (draw_step if below(2) else draw_event)()
-        show(f"drawn {number}", log(n, persistent, list(zip(owners, filled, kinds)), events), file(steps))
+        show(f"drawn {number}", log(n, persistent, list(zip(owners, filled, kinds)), events, edition), file(steps))
 
 
 def cases():
@@ -552,6 +616,10 @@ def cases():
     drawn_cases(range(79, 89), 8, SET_CRASH, bytes_differ, bytes_differ, bytes_differ)
     drawn_cases(range(89, 105), 9, SET_CRASH, differs=(False, True))
     drawn_cases(range(105, 117), 10, SET_CRASH, (0, 7), (0, 7, 1), (0, 7), (False, True))
+    edition_cases()
+    edition_refusals()
+    low_halves_alike = (0, 65536, 131072)
+    drawn_cases(range(117, 133), 11, SET_CRASH, low_halves_alike, low_halves_alike, low_halves_alike, (False, True), 2)
 
 
 {"cases": cases, "answers": answers}[sys.argv[1]]()

@@ -40,6 +40,18 @@ pub fn bytes_kept(out: &[u8], start: usize, length: usize) -> bool {
     true
 }
 
+// The part of this start and length, or the empty part.
+pub fn part(bytes: &[u8], start: usize, length: usize) -> &[u8] {
+    if bytes.len() < start {
+        return &bytes[..0];
+    }
+    if bytes.len() - start < length {
+        return &bytes[..0];
+    }
+    let end = start + length;
+    &bytes[start..end]
+}
+
 fn word_after(at: usize, zeros: usize) -> u64 {
     if at < zeros {
         return 0;

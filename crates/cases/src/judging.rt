@@ -4,12 +4,14 @@
 use crate::areas::bytes_kept;
 use crate::areas::fill_bytes;
 use crate::areas::fill_words;
+use crate::areas::part;
 use crate::areas::words_cleared;
 use crate::printing::say;
 use crate::printing::say_bytes;
 use crate::printing::say_count;
 use crate::printing::say_refusal;
 use crate::printing::say_replayed;
+use crate::printing::say_so;
 use crate::words::MOST;
 use crate::words::bytes_after;
 use crate::words::number_after;
@@ -24,27 +26,6 @@ ghost use lib.ListN.{length};
 const OUTPUT: usize = 4000;
 
 const SCRATCH: usize = 5000;
-
-// A line that says so, with `not: ` in front where it is not so.
-fn say_so(so: bool, words: &[u8]) {
-    say(b"\n");
-    if !so {
-        say(b"not: ");
-    }
-    say(words);
-}
-
-// The part of this start and length, or the empty part.
-fn part(bytes: &[u8], start: usize, length: usize) -> &[u8] {
-    if bytes.len() < start {
-        return &bytes[..0];
-    }
-    if bytes.len() - start < length {
-        return &bytes[..0];
-    }
-    let end = start + length;
-    &bytes[start..end]
-}
 
 // The bytes of a file, and what replay says to it.
 fn say_file(log: &[u8], file: &[u8]) {

@@ -1,5 +1,5 @@
-// Reader, recorder, replay and judge on the lines of standard input, with what each says on standard output. The first
-// letter of a line says which:
+// Reader, recorder, replay, judge and converter on the lines of standard input, with what each says on standard output.
+// The first letter of a line says which:
 //
 //     r LOG           reads a log
 //     w BUFFER CALL   records a field in a buffer and shows the buffer afterwards; the call is the count of used bytes,
@@ -7,15 +7,19 @@
 //     s LOG SCHEDULE  replays a log with a schedule: yes, no and the events passed, or the number of the refusal
 //     j NAME LOG OUTPUT OFFSET SCRATCH
 //                     judges a log in areas of these lengths (judging.rt)
+//     c LOG OUTPUT    converts a log into an output of this length (converting.rt)
 //
 // Bytes are in hexadecimal digits, lengths and the offset in decimal. Any other line is a comment, and is printed as it
 // is.
 mod areas;
+mod converting;
 mod judging;
 mod printing;
 mod words;
 
 use bytes::scan::find;
+use converting::convert_line;
+use fields::Edition;
 use judging::judge_line;
 use log::Head;
 use printing::say;
@@ -33,13 +37,23 @@ use words::bytes_after;
 ghost use Prim.Native.Nat.{_<_};
 
 // Room for all cases.
-const INPUT: usize = 524288;
+const INPUT: usize = 1048576;
+
+// Edition 1 goes without saying.
+fn say_edition(edition: Edition) {
+    match edition {
+        Edition::First => (),
+        Edition::Second => say(b" edition 2"),
+    }
+}
 
 fn say_head(head: Head) {
     say_count(b"accepted ", head.machines as usize);
     say_count(b" ", head.persistent as usize);
     say_count(b" ", head.locations as usize);
     say_count(b" ", head.events as usize);
+    let edition = head.edition;
+    say_edition(edition);
 }
 
 fn say_read(r: Reading) {
@@ -107,6 +121,7 @@ fn one_case(line: &[u8]) {
             b'w' => return record_line(line),
             b's' => return replay_line(line),
             b'j' => return judge_line(line),
+            b'c' => return convert_line(line),
             _ => return say(line),
         }
     }
@@ -126,8 +141,13 @@ fn lines(text: &[u8]) {
     }
 }
 
+// Runs the cases of standard input, as many as the buffer holds.
+fn run(input: &mut [u8]) {
+    let got = io::read_full(0, input);
+    lines(&input[..got]);
+}
+
 fn main() {
     let mut input = [0u8; INPUT];
-    let got = io::read_full(0, &mut input);
-    lines(&input[..got]);
+    run(&mut input);
 }

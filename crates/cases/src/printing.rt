@@ -8,6 +8,15 @@ pub fn say(words: &[u8]) {
     io::write_all(1, words);
 }
 
+// A line that says so, with `not: ` in front where it is not so.
+pub fn say_so(so: bool, words: &[u8]) {
+    say(b"\n");
+    if !so {
+        say(b"not: ");
+    }
+    say(words);
+}
+
 pub fn say_count(words: &[u8], n: usize) {
     say(words);
     io::print_decimal(1, n as u64);

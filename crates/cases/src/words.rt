@@ -5,7 +5,7 @@ use text::hex_bytes;
 ghost use Rattle.io.specs.Counts.{Counts};
 
 // The most bytes that a word says.
-pub const MOST: usize = 2048;
+pub const MOST: usize = 4096;
 
 // Past the space at a position.
 fn past(at: usize) -> usize {
