@@ -3,7 +3,10 @@
  *
  * A buffer is a pointer and a length; the length of `scratch` counts 64-bit numbers. Buffers must not overlap. Nothing
  * else is asked of the arguments. Each answer is one number: bits 0 to 7 are the number of a refusal, or 0 if there is
- * none, and a refusal leaves all other bits 0 and every buffer as it was. Bits that are not named are 0. */
+ * none, and a refusal leaves all other bits 0 and every buffer as it was. Bits that are not named are 0.
+ *
+ * A log is of edition 1 or 2. They differ in the tag of the first field, 1 or 6, which is the log's first byte, and in
+ * how many bytes a value has, 2 or 4, low byte first. */
 #ifndef CXL0_H
 #define CXL0_H
 
@@ -31,27 +34,36 @@ enum cxl0_refusal {
     CXL0_BAD_SCHEDULE = 13,
     CXL0_BAD_INITIAL_VALUE = 14,
     CXL0_BAD_MACHINE_SET = 15,
-    CXL0_BAD_KIND = 16
+    CXL0_BAD_KIND = 16,
+    CXL0_VALUE_TOO_LARGE = 17
 };
 
 /* A verdict file has at most so many bytes, which the output must have after the offset. */
 #define CXL0_FILE_MOST 1544
 /* The scratch must have at least so many 64-bit numbers. */
 #define CXL0_SCRATCH_LEAST 4096
-/* An accepted log has at most so many bytes. */
-#define CXL0_LOG_MOST 1512
+/* An accepted log has at most so many bytes, in edition 2; in edition 1 at most 1,512. */
+#define CXL0_LOG_MOST 2088
+/* The output of a conversion must have at least so many bytes. */
+#define CXL0_CONVERT_LEAST 4096
 
 /* Puts one field after the first `used` bytes of `buf`; no other byte changes. Bits 8 to 39: the new count of used
  * bytes. docs/FORMAT.md has the payload of each tag. That of a location, tag 2, is its owner; unless it is 0, the
- * initial value of its memory, low byte first; and unless it is the owner's, the kind of its memory, 1 volatile or 2
- * persistent: {2, 7, 0, 1} is in the volatile part of the memory of machine 2, which is persistent, and starts as 7.
- * That of a set crash, tag 3, is operation 11, a machine byte 0, the set of two machines or more, with bit i - 1 for
- * machine i, and a value of 0: {11, 0, 3, 0, 0} crashes machines 1 and 2 in one step. */
+ * initial value of its memory; and unless it is the owner's, the kind of its memory, 1 volatile or 2 persistent:
+ * {2, 7, 0, 1}, or {2, 7, 0, 0, 0, 1} in edition 2, is in the volatile part of the memory of machine 2, which is
+ * persistent, and starts as 7. That of a set crash, tag 3, is operation 11, a machine byte 0, the set of two machines
+ * or more, with bit i - 1 for machine i, and a value of 0: {11, 0, 3, 0, 0}, or {11, 0, 3, 0, 0, 0, 0} in edition 2,
+ * crashes machines 1 and 2 in one step. */
 uint64_t cxl0_record(uint8_t *buf, size_t buf_len, size_t used, uint8_t tag, const uint8_t *payload,
                      size_t payload_len);
 
 /* Reads a log to its end. Bits 8 to 15: machines, 16 to 23: locations, 24 to 31: events. */
 uint64_t cxl0_read(const uint8_t *log, size_t log_len);
+
+/* Writes an accepted log in the other edition into `out` from its first byte on; the rest of `out` is as it was. Bits 8
+ * to 31: the length of what is written. A value over 65,535 on the way to edition 1 gives CXL0_VALUE_TOO_LARGE, after
+ * all other refusals. There and back gives the same bytes, and the verdict is the same in both. */
+uint64_t cxl0_convert(const uint8_t *log, size_t log_len, uint8_t *out, size_t out_len);
 
 /* Follows a log with the silent steps of a verdict file that says allowed. Bit 8: yes; if it is 0, bits 16 to 23: the
  * number of events passed before the first thing that is not possible. */
@@ -70,6 +82,8 @@ static inline size_t cxl0_record_count(uint64_t answer) { return answer >> 8 & 0
 static inline unsigned cxl0_read_machines(uint64_t answer) { return answer >> 8 & 0xff; }
 static inline unsigned cxl0_read_locations(uint64_t answer) { return answer >> 16 & 0xff; }
 static inline unsigned cxl0_read_events(uint64_t answer) { return answer >> 24 & 0xff; }
+
+static inline size_t cxl0_convert_length(uint64_t answer) { return answer >> 8 & 0xffffff; }
 
 static inline int cxl0_replay_yes(uint64_t answer) { return answer >> 8 & 1; }
 static inline unsigned cxl0_replay_passed(uint64_t answer) { return answer >> 16 & 0xff; }

@@ -1,13 +1,18 @@
 """A proved judge of CXL0 logs, for Python.
 
-The four calls of the proved library: record, read, replay and judge. A refusal is the exception Refused, with the
-number and the name of the specification. python/build.sh makes the shared library that this module loads; the
+The five calls of the proved library: record, read, convert, replay and judge. A refusal is the exception Refused, with
+the number and the name of the specification. python/build.sh makes the shared library that this module loads; the
 environment variable MALLUVOM_SO names another.
 
 >>> verdict = judge(bytes.fromhex(
 ...     "0102000203 02010002 0305000101000100 0305000501000000 0305000702000000 0305000401000000 040000"))
 >>> verdict.allowed, verdict.steps
 (True, (Step(before=1, location=0, machine=1),))
+
+A log of edition 2 begins with 06, and its values have 4 bytes in place of 2.
+
+>>> convert(bytes.fromhex("0102000101 02010001 0305000301000700 040000")).hex(" ")
+'06 02 00 01 01 02 01 00 01 03 07 00 03 01 00 07 00 00 00 04 00 00'
 """
 
 import ctypes
@@ -17,7 +22,11 @@ from typing import NamedTuple, Optional, Tuple
 
 FILE_MOST = 1544
 SCRATCH_LEAST = 4096
-LOG_MOST = 1512
+LOG_MOST = 2088
+CONVERT_LEAST = 4096
+
+# The editions of a log, by its first byte.
+EDITIONS = {0x01: 1, 0x06: 2}
 
 REFUSALS = {
     1: "BufferTooShort",
@@ -36,6 +45,7 @@ REFUSALS = {
     14: "BadInitialValue",
     15: "BadMachineSet",
     16: "BadKind",
+    17: "ValueTooLarge",
 }
 
 
@@ -93,6 +103,7 @@ def _load():
     arguments = {
         "cxl0_record": [pointer, size, size, ctypes.c_uint8, ctypes.c_char_p, size],
         "cxl0_read": [ctypes.c_char_p, size],
+        "cxl0_convert": [ctypes.c_char_p, size, pointer, size],
         "cxl0_replay": [ctypes.c_char_p, size, ctypes.c_char_p, size],
         "cxl0_judge": [ctypes.c_char_p, size, pointer, size, size, pointer, size],
     }
@@ -139,6 +150,25 @@ def read(log: bytes) -> Counts:
     log = bytes(log)
     answer = _accepted(_library.cxl0_read(log, len(log)))
     return Counts(_bits(answer, 8, 8), _bits(answer, 16, 8), _bits(answer, 24, 8))
+
+
+def edition(log: bytes) -> int:
+    """The edition of a log that read accepts: 1, whose values have 2 bytes, or 2, whose values have 4."""
+    log = bytes(log)
+    read(log)
+    return EDITIONS[log[0]]
+
+
+def convert(log: bytes, out: Optional[bytearray] = None) -> bytes:
+    """The log in the other edition. A caller may lend the output, of at least CONVERT_LEAST bytes.
+
+    There and back gives the same bytes, and the verdict is the same in both."""
+    log = bytes(log)
+    if out is None:
+        out = bytearray(CONVERT_LEAST)
+    area = (ctypes.c_uint8 * len(out)).from_buffer(out)
+    answer = _accepted(_library.cxl0_convert(log, len(log), ctypes.addressof(area), len(out)))
+    return bytes(out[: _bits(answer, 8, 24)])
 
 
 def replay(log: bytes, schedule: bytes) -> Replayed:

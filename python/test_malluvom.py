@@ -23,6 +23,13 @@ def answer(log: bytes) -> str:
     return f"allowed {len(verdict.steps)}" if verdict.allowed else f"impossible {verdict.event}"
 
 
+def ended(buffer: bytearray, used: int, event: bytes) -> bytes:
+    """The log of the used bytes, one more event and the end."""
+    log = bytearray(buffer)
+    used = malluvom.record(log, used, 3, event)
+    return bytes(log[: malluvom.record(log, used, 4, b"")])
+
+
 class Examples(unittest.TestCase):
     def test_verdicts_are_the_stored_ones(self):
         logs = sorted(EXAMPLES.glob("*/*.log"))
@@ -38,6 +45,22 @@ class Examples(unittest.TestCase):
             if answer(log).startswith("allowed"):
                 file = malluvom.judge(log).file
                 self.assertEqual(malluvom.replay(log, file), malluvom.Replayed(True, 0), path)
+
+    def test_verdicts_are_the_same_in_both_editions(self):
+        converted = 0
+        for path in sorted(EXAMPLES.glob("*/*.log")):
+            log = path.read_bytes()
+            try:
+                other = malluvom.convert(log)
+            except malluvom.Refused as refused:
+                too_large = refused.number == 17 and malluvom.edition(log) == 2
+                self.assertTrue(too_large or answer(log) == f"number {refused.number}", path)
+                continue
+            converted += 1
+            self.assertEqual({malluvom.edition(log), malluvom.edition(other)}, {1, 2}, path)
+            self.assertEqual(malluvom.convert(other), log, path)
+            self.assertEqual(malluvom.judge(other), malluvom.judge(log), path)
+        self.assertGreater(converted, 14)
 
 
 class Calls(unittest.TestCase):
@@ -78,9 +101,7 @@ class Calls(unittest.TestCase):
         stored = malluvom.record(buffer, used, 5, b"\x08\x01\0\0\0\x05\0")
         self.assertEqual(stored, used + 10)
         for value, expected in (b"\x05", "allowed 0"), (b"\x06", "impossible 2"):
-            used = malluvom.record(buffer, stored, 3, b"\x04\x02\0" + value + b"\0")
-            end = malluvom.record(buffer, used, 4, b"")
-            self.assertEqual(answer(bytes(buffer[:end])), expected)
+            self.assertEqual(answer(ended(buffer, stored, b"\x04\x02\0" + value + b"\0")), expected)
 
     def test_set_crash(self):
         buffer = bytearray(malluvom.LOG_MOST)
@@ -104,10 +125,9 @@ class Calls(unittest.TestCase):
             ((b"\x0b\0\x03\0\0",), "impossible 3"),
         ):
             end = used
-            for payload in crashes + (b"\x04\x02\0\x05\0",):
+            for payload in crashes:
                 end = malluvom.record(buffer, end, 3, payload)
-            end = malluvom.record(buffer, end, 4, b"")
-            self.assertEqual(answer(bytes(buffer[:end])), expected)
+            self.assertEqual(answer(ended(buffer, end, b"\x04\x02\0\x05\0")), expected)
 
     def test_initial_value(self):
         buffer = bytearray(malluvom.LOG_MOST)
@@ -135,10 +155,8 @@ class Calls(unittest.TestCase):
             (crashed, 0, "impossible 3"),
             (crashed, 5, "impossible 3"),
         ):
-            log = bytearray(buffer)
-            end = malluvom.record(log, before, 3, b"\x04\x01\0" + value.to_bytes(2, "little"))
-            end = malluvom.record(log, end, 4, b"")
-            self.assertEqual(answer(bytes(log[:end])), expected)
+            log = ended(buffer, before, b"\x04\x01\0" + value.to_bytes(2, "little"))
+            self.assertEqual(answer(log), expected)
 
     def test_kind(self):
         buffer = bytearray(malluvom.LOG_MOST)
@@ -166,18 +184,51 @@ class Calls(unittest.TestCase):
             crashed = malluvom.record(buffer, used, 3, crash)
             for location, initial in enumerate((0, 256, 0, 0)):
                 for value in 5, initial:
-                    log = bytearray(buffer)
-                    payload = bytes([4, 1, location]) + value.to_bytes(2, "little")
-                    end = malluvom.record(log, crashed, 3, payload)
-                    end = malluvom.record(log, end, 4, b"")
+                    log = ended(buffer, crashed, bytes([4, 1, location]) + value.to_bytes(2, "little"))
                     possible = (value == initial) == (location in lost)
-                    self.assertEqual(answer(bytes(log[:end])), "allowed 0" if possible else "impossible 6")
+                    self.assertEqual(answer(log), "allowed 0" if possible else "impossible 6")
 
     def test_the_longest_log(self):
         log = bytes.fromhex("0102000600") + bytes.fromhex("02040006010002") * 32
         log += bytes.fromhex("0507000901000000 0000") * 128 + bytes.fromhex("040000")
-        self.assertEqual(len(log), malluvom.LOG_MOST)
-        self.assertEqual(malluvom.read(log), malluvom.Counts(machines=6, locations=32, events=128))
+        wide = malluvom.convert(log)
+        self.assertEqual((len(log), len(wide)), (1512, malluvom.LOG_MOST))
+        for longest in log, wide:
+            self.assertEqual(malluvom.read(longest), malluvom.Counts(machines=6, locations=32, events=128))
+
+    def test_edition_2(self):
+        buffer = bytearray(malluvom.LOG_MOST)
+        # One persistent machine; L0 is its own and starts as 65536. MStore by 1 to L0 of 4294967295.
+        head = malluvom.record(buffer, 0, 6, b"\x01\x01")
+        for number, payload in (4, b"\x01\0\0"), (14, b"\x01\0\0\0\0"), (16, b"\x01\0\0\x01\0\x02"):
+            self.refused(number, malluvom.record, buffer, head, 2, payload)
+        used = malluvom.record(buffer, head, 2, b"\x01\0\0\x01\0")
+        for tag in malluvom.EDITIONS:
+            self.refused(3, malluvom.record, buffer, used, tag, b"\x01\x01")
+        self.refused(4, malluvom.record, buffer, used, 3, b"\x03\x01\0\x01\0")
+        self.refused(4, malluvom.record, buffer, used, 5, b"\x08\x01\0\0\0\0\0")
+        stored = malluvom.record(buffer, used, 3, b"\x03\x01\0\xff\xff\xff\xff")
+        for before, value, expected in (
+            (used, 65536, "allowed 0"),
+            (used, 0, "impossible 1"),
+            (stored, 4294967295, "allowed 0"),
+            (stored, 65535, "impossible 2"),
+        ):
+            log = ended(buffer, before, b"\x04\x01\0" + value.to_bytes(4, "little"))
+            self.assertEqual((malluvom.edition(log), answer(log)), (2, expected))
+            self.refused(17, malluvom.convert, log)
+
+    def test_convert_with_a_lent_buffer(self):
+        out = bytearray(b"\x07" * malluvom.CONVERT_LEAST)
+        self.refused(1, malluvom.convert, b"", out[1:])
+        self.refused(2, malluvom.convert, b"", out)
+        self.refused(12, malluvom.convert, self.log + b"\0", out)
+        self.refused(17, malluvom.convert, bytes.fromhex("0602000101 0205000100000100 040000"), out)
+        self.assertEqual(out, b"\x07" * malluvom.CONVERT_LEAST)
+        wide = malluvom.convert(self.log, out)
+        self.assertEqual(out, wide + b"\x07" * (malluvom.CONVERT_LEAST - len(wide)))
+        self.assertEqual((malluvom.edition(self.log), malluvom.edition(wide)), (1, 2))
+        self.refused(2, malluvom.edition, b"")
 
     def test_replay(self):
         self.assertEqual(malluvom.replay(self.log, bytes.fromhex("1002000100 1103000000 00 040000")), (False, 0))
@@ -197,9 +248,10 @@ class Calls(unittest.TestCase):
         self.assertFalse(any(scratch))
 
     def test_names(self):
-        names = [malluvom.Refused(number).name for number in (1, 13, 14, 15, 16)]
-        self.assertEqual(names, ["BufferTooShort", "BadSchedule", "BadInitialValue", "BadMachineSet", "BadKind"])
-        self.assertEqual(sorted(malluvom.REFUSALS), list(range(1, 17)))
+        names = {1: "BufferTooShort", 13: "BadSchedule", 14: "BadInitialValue"}
+        names |= {15: "BadMachineSet", 16: "BadKind", 17: "ValueTooLarge"}
+        self.assertEqual({number: malluvom.Refused(number).name for number in names}, names)
+        self.assertEqual(sorted(malluvom.REFUSALS), list(range(1, 18)))
 
 
 def load_tests(loader, tests, pattern):

@@ -1,6 +1,7 @@
 //! The four corpora, from fixed seeds.
 
 use corpus::{change_one_load, encode, plausible, Random, Shape, MIXED};
+use second::{Edition, Log};
 
 /// So many logs in each.
 const LOGS: usize = 400;
@@ -28,8 +29,8 @@ impl Corpus {
         format!("{} ({}, {}, {})", self.name, self.machines, self.locations, self.events)
     }
 
-    /// The logs' bytes; the same in every run.
-    pub fn logs(&self) -> Vec<Vec<u8>> {
+    /// The logs' bytes in an edition; the same in every run.
+    pub fn logs(&self, edition: Edition) -> Vec<Vec<u8>> {
         let mut random = Random::new(7);
         let shape = Shape {
             machines: self.machines,
@@ -46,7 +47,8 @@ impl Corpus {
         for number in 0..LOGS {
             let log = plausible(&mut random, &shape);
             let odd = number % 2 == 1;
-            logs.push(encode(&if odd { change_one_load(&mut random, &log, shape.values) } else { log }));
+            let log = if odd { change_one_load(&mut random, &log, shape.values) } else { log };
+            logs.push(encode(&Log { edition, ..log }));
         }
         logs
     }
@@ -55,12 +57,13 @@ impl Corpus {
 #[cfg(test)]
 mod tests {
     use super::CORPORA;
+    use second::Edition;
 
     /// The times of one version are compared with those of another, so the logs must stay. This is their FNV-1a hash.
     #[test]
     fn the_logs_are_those_of_other_versions() {
         let hashes = CORPORA.map(|corpus| {
-            let bytes = corpus.logs().concat();
+            let bytes = corpus.logs(Edition::First).concat();
             bytes
                 .iter()
                 .fold(0xcbf2_9ce4_8422_2325, |hash: u64, &byte| (hash ^ u64::from(byte)).wrapping_mul(0x100_0000_01b3))

@@ -1,7 +1,8 @@
 //! How fast the proved judge is beside the second judge, a straightforward search with hash sets.
 //!
-//!     bench              every table
-//!     bench one CORPUS   the proved judge on one log of a corpus, once, for counting instructions (callgrind.sh)
+//!     bench                      every table
+//!     bench one CORPUS EDITION   the proved judge and the proved converter on one log of a corpus, once, for counting
+//!                                instructions (callgrind.sh)
 
 mod corpora;
 mod scan;
@@ -11,7 +12,8 @@ use std::process::ExitCode;
 
 use corpora::{Corpus, CORPORA};
 use malluvom::SCRATCH_LEAST;
-use timing::{agree, clearing, measure, Times};
+use second::Edition;
+use timing::{agree, clearing, converting, converts, measure, Times};
 
 fn main() -> ExitCode {
     let words: Vec<String> = std::env::args().skip(1).collect();
@@ -24,20 +26,22 @@ fn main() -> ExitCode {
                 ExitCode::FAILURE
             }
         },
-        ["one", name] => match CORPORA.iter().find(|corpus| corpus.name == name) {
-            Some(corpus) => {
-                timing::once(&corpus.logs()[0]);
-                ExitCode::SUCCESS
-            }
-            None => usage(),
-        },
+        ["one", name, number] => {
+            let corpus = CORPORA.iter().find(|corpus| corpus.name == name);
+            let edition = Edition::ALL.into_iter().find(|edition| edition.number().to_string() == number);
+            let (Some(corpus), Some(edition)) = (corpus, edition) else {
+                return usage();
+            };
+            timing::once(&corpus.logs(edition)[0]);
+            ExitCode::SUCCESS
+        }
         _ => usage(),
     }
 }
 
 fn usage() -> ExitCode {
     let names: Vec<&str> = CORPORA.iter().map(|corpus| corpus.name).collect();
-    eprintln!("usage: bench, or bench one CORPUS, where CORPUS is one of {}", names.join(", "));
+    eprintln!("usage: bench, or bench one CORPUS EDITION, where CORPUS is one of {}", names.join(", "));
     ExitCode::from(2)
 }
 
@@ -47,36 +51,61 @@ fn tables() -> Result<(), String> {
         "Microseconds per log, mean over a corpus of the median of {} rounds; p99 over its logs.\n",
         timing::ROUNDS
     );
-    println!("| corpus | proved | p99 | second | p99 | scan | second / proved | proved / scan |");
-    println!("|---|---|---|---|---|---|---|---|");
+    println!("| corpus | edition | proved | p99 | second | p99 | scan | second / proved | proved / scan |");
+    println!("|---|---|---|---|---|---|---|---|---|");
     let mut small = None;
-    for corpus in CORPORA {
-        let times = checked(&corpus)?;
-        println!(
-            "| {} | {:.2} | {:.2} | {:.2} | {:.2} | {:.3} | {:.1} | {:.1} |",
-            corpus.title(),
-            times.proved.mean,
-            times.proved.p99,
-            times.second.mean,
-            times.second.p99,
-            times.scan.mean,
-            times.second.mean / times.proved.mean,
-            times.proved.mean / times.scan.mean
-        );
-        small.get_or_insert(times.proved.mean);
+    for edition in Edition::ALL {
+        for corpus in CORPORA {
+            let times = checked(&corpus, edition)?;
+            println!(
+                "| {} | {} | {:.2} | {:.2} | {:.2} | {:.2} | {:.3} | {:.1} | {:.1} |",
+                corpus.title(),
+                edition.number(),
+                times.proved.mean,
+                times.proved.p99,
+                times.second.mean,
+                times.second.p99,
+                times.scan.mean,
+                times.second.mean / times.proved.mean,
+                times.proved.mean / times.scan.mean
+            );
+            small.get_or_insert(times.proved.mean);
+        }
     }
     let share = 100.0 * clear / small.unwrap_or(clear);
     println!("\nClearing {SCRATCH_LEAST} numbers takes {clear:.2} microseconds, {share:.0} % of a small log.");
+    converter()?;
     events()?;
     locations()?;
     scratch();
     Ok(())
 }
 
-fn checked(corpus: &Corpus) -> Result<Times, String> {
-    let logs = corpus.logs();
+fn checked(corpus: &Corpus, edition: Edition) -> Result<Times, String> {
+    let logs = corpus.logs(edition);
     agree(&logs)?;
     Ok(measure(&logs, SCRATCH_LEAST))
+}
+
+fn converter() -> Result<(), String> {
+    println!("\n| conversion | to edition | proved | p99 | second | second / proved |\n|---|---|---|---|---|---|");
+    for corpus in CORPORA {
+        let [first, second] = Edition::ALL.map(|edition| corpus.logs(edition));
+        converts(&first, &second)?;
+        for (to, logs) in [(Edition::Second, first), (Edition::First, second)] {
+            let [proved, second] = converting(&logs);
+            println!(
+                "| {} | {} | {:.2} | {:.2} | {:.2} | {:.1} |",
+                corpus.title(),
+                to.number(),
+                proved.mean,
+                proved.p99,
+                second.mean,
+                second.mean / proved.mean
+            );
+        }
+    }
+    Ok(())
 }
 
 fn events() -> Result<(), String> {
@@ -96,7 +125,7 @@ fn locations() -> Result<(), String> {
 }
 
 fn row(size: usize, corpus: &Corpus) -> Result<(), String> {
-    let times = checked(corpus)?;
+    let times = checked(corpus, Edition::First)?;
     let ratio = times.second.mean / times.proved.mean;
     println!("| {size} | {:.2} | {:.2} | {ratio:.1} |", times.proved.mean, times.second.mean);
     Ok(())
@@ -104,7 +133,7 @@ fn row(size: usize, corpus: &Corpus) -> Result<(), String> {
 
 fn scratch() {
     println!("\n| scratch lent (small logs) | proved | clearing alone |\n|---|---|---|");
-    let logs = CORPORA[0].logs();
+    let logs = CORPORA[0].logs(Edition::First);
     for numbers in [4096, 8192, 16384] {
         let times = measure(&logs, numbers);
         println!("| {numbers} | {:.2} | {:.2} |", times.proved.mean, clearing(numbers));

@@ -3,7 +3,7 @@
 use std::hint::black_box;
 use std::time::Instant;
 
-use malluvom::{judge_into, Judged, FILE_MOST, SCRATCH_LEAST};
+use malluvom::{convert_into, judge_into, Judged, CONVERT_LEAST, FILE_MOST, SCRATCH_LEAST};
 use second::{judge_bytes, Verdict};
 
 use crate::scan::scan;
@@ -46,6 +46,17 @@ pub fn agree(logs: &[Vec<u8>]) -> Result<(), String> {
     Ok(())
 }
 
+/// Whether the proved converter makes each log of the second row of the same one in the first, and the other way round.
+pub fn converts(first: &[Vec<u8>], second: &[Vec<u8>]) -> Result<(), String> {
+    for (one, other) in first.iter().zip(second).chain(second.iter().zip(first)) {
+        let converted = malluvom::convert(one);
+        if converted.as_ref() != Ok(other) {
+            return Err(format!("{one:02x?} is converted to {converted:02x?}"));
+        }
+    }
+    Ok(())
+}
+
 fn time(mut call: impl FnMut()) -> f64 {
     let begun = Instant::now();
     for _ in 0..CALLS {
@@ -60,27 +71,47 @@ fn time(mut call: impl FnMut()) -> f64 {
 pub fn measure(logs: &[Vec<u8>], scratch: usize) -> Times {
     let mut out = vec![0; FILE_MOST];
     let mut scratch = vec![0; scratch];
-    let mut samples = vec![[const { Vec::new() }; 3]; logs.len()];
+    let [proved, second, scan] = in_turn(logs, |log| {
+        [
+            time(|| {
+                let _ = black_box(judge_into(log, &mut out, 0, &mut scratch));
+            }),
+            time(|| {
+                let _ = black_box(judge_bytes(log).map(|verdict| second::verdict_file::write(&verdict)));
+            }),
+            time(|| {
+                let _ = black_box(scan(black_box(log)));
+            }),
+        ]
+    });
+    Times { proved, second, scan }
+}
+
+/// Times the proved and the second converter on each log. Both read the log and write into an output that stays.
+pub fn converting(logs: &[Vec<u8>]) -> [Side; 2] {
+    let mut out = vec![0; CONVERT_LEAST];
+    in_turn(logs, |log| {
+        [
+            time(|| {
+                let _ = black_box(convert_into(log, &mut out));
+            }),
+            time(|| {
+                let _ = black_box(second::convert(log, &mut out));
+            }),
+        ]
+    })
+}
+
+/// What the sides took for each log, one after the other, in all rounds.
+fn in_turn<const SIDES: usize>(logs: &[Vec<u8>], mut turn: impl FnMut(&[u8]) -> [f64; SIDES]) -> [Side; SIDES] {
+    let mut samples = vec![[const { Vec::new() }; SIDES]; logs.len()];
     for _ in 0..ROUNDS {
         for (log, sides) in logs.iter().zip(&mut samples) {
-            let log = black_box(&log[..]);
-            sides[0].push(time(|| {
-                let _ = black_box(judge_into(log, &mut out, 0, &mut scratch));
-            }));
-            sides[1].push(time(|| {
-                let _ = black_box(judge_bytes(log).map(|verdict| second::verdict_file::write(&verdict)));
-            }));
-            sides[2].push(time(|| {
-                let _ = black_box(scan(black_box(log)));
-            }));
+            let times = turn(black_box(&log[..]));
+            sides.iter_mut().zip(times).for_each(|(side, time)| side.push(time));
         }
     }
-    let side = |which: usize| {
-        let medians = samples.iter_mut().map(|sides| median(&mut sides[which]));
-        summary(medians.collect())
-    };
-    let [proved, second, scan] = [0, 1, 2].map(side);
-    Times { proved, second, scan }
+    std::array::from_fn(|side| summary(samples.iter_mut().map(|sides| median(&mut sides[side])).collect()))
 }
 
 fn median(times: &mut [f64]) -> f64 {
@@ -100,7 +131,7 @@ pub fn clearing(numbers: usize) -> f64 {
     median(&mut times)
 }
 
-/// The proved judge on one log, once.
+/// The proved judge and the proved converter on one log, once.
 pub fn once(log: &[u8]) {
     let mut out = vec![0; FILE_MOST];
     let mut scratch = vec![0; SCRATCH_LEAST];
@@ -108,5 +139,8 @@ pub fn once(log: &[u8]) {
         Ok(Judged::Allowed { steps, .. }) => println!("allowed {steps}"),
         Ok(Judged::Impossible { event, .. }) => println!("impossible {event}"),
         Err(refusal) => println!("{refusal}"),
+    }
+    if let Err(refusal) = convert_into(log, &mut vec![0; CONVERT_LEAST]) {
+        println!("not converted: {refusal}");
     }
 }

@@ -11,7 +11,8 @@ pub fn read(log: &Log) -> u64 {
     u64::from(log.machines) << 8 | (log.homes.len() as u64) << 16 | (log.events.len() as u64) << 24
 }
 
-pub fn record(count: usize) -> u64 {
+/// The count of bytes that the recorder and the converter give.
+pub fn bytes(count: usize) -> u64 {
     (count as u64) << 8
 }
 

@@ -4,6 +4,7 @@
 //!     compare [ROUNDS]           random logs; more rounds take other seeds
 //!     compare examples FOLDER    every .log file of the folder's folders, with its stored .out
 
+mod converting;
 mod examples;
 mod expected;
 mod kinds;

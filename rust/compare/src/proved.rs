@@ -1,4 +1,4 @@
-//! The proved library's four calls on slices, with their packed answers.
+//! The proved library's five calls on slices, with their packed answers.
 
 /// `cxl0_record`.
 pub fn record(buffer: &mut [u8], used: usize, tag: u8, payload: &[u8]) -> u64 {
@@ -20,4 +20,9 @@ pub fn replay(log: &[u8], schedule: &[u8]) -> u64 {
 pub fn judge(log: &[u8], out: &mut [u8], offset: usize, scratch: &mut [u64]) -> u64 {
     let (area, numbers) = (out.as_mut_ptr(), scratch.as_mut_ptr());
     unsafe { malluvom_sys::cxl0_judge(log.as_ptr(), log.len(), area, out.len(), offset, numbers, scratch.len()) }
+}
+
+/// `cxl0_convert`.
+pub fn convert(log: &[u8], out: &mut [u8]) -> u64 {
+    unsafe { malluvom_sys::cxl0_convert(log.as_ptr(), log.len(), out.as_mut_ptr(), out.len()) }
 }

@@ -1,8 +1,8 @@
-//! The recorder against the second one and against an encoder that asks nothing.
+//! The recorder against the second one and against the encoder.
 
-use corpus::encode::{encode, fields};
+use corpus::encode::{boundaries, encode, fields};
 use corpus::{near_home, near_set_crash, Random};
-use second::{Log, Refusal};
+use second::{Edition, Log, Refusal};
 
 use crate::report::{hex, Report};
 use crate::{expected, proved};
@@ -14,13 +14,15 @@ pub fn compare(log: &[u8], records: Option<&Log>, random: &mut Random, report: &
         let spare = random.below(14);
         let mut buffer = log.to_vec();
         buffer.truncate(used.max(random.below(log.len() + 1)) + spare);
-        buffer.extend((0..spare).map(|_| random.byte()));
+        buffer.extend(random.bytes(spare));
         let used = match random.below(50) {
             0 => buffer.len() + random.between(1, 9),
             1 => usize::MAX - random.below(9),
             _ => used.min(buffer.len()),
         };
-        let (tag, payload) = some_field(random);
+        let of_the_log = if log.first() == Some(&6) { Edition::Second } else { Edition::First };
+        let edition = if random.percent(95) { of_the_log } else { of_the_log.other() };
+        let (tag, payload) = some_field(random, edition);
         let _ = one(log, &mut buffer, used, tag, &payload, report);
     }
     if let Some(records) = records.filter(|_| random.percent(4)) {
@@ -33,12 +35,7 @@ fn used_count(log: &[u8], random: &mut Random) -> usize {
     if random.percent(20) {
         return random.below(log.len() + 1);
     }
-    let mut ends = vec![0];
-    let mut at = 0;
-    while at + 3 <= log.len() {
-        at += 3 + usize::from(u16::from_le_bytes([log[at + 1], log[at + 2]]));
-        ends.push(at.min(log.len()));
-    }
+    let ends = boundaries(log);
     // Before the end field there is more to say than after it.
     let last = ends.len() - 1;
     if random.percent(50) {
@@ -48,30 +45,32 @@ fn used_count(log: &[u8], random: &mut Random) -> usize {
     }
 }
 
-/// A field that is right, or nearly so.
-fn some_field(random: &mut Random) -> (u8, Vec<u8>) {
-    let tag = random.between(1, 5) as u8;
+/// A field that is right in an edition, or nearly so.
+fn some_field(random: &mut Random, edition: Edition) -> (u8, Vec<u8>) {
+    let tag = random.between(1, 6) as u8;
+    let width = edition.width();
     let small = |random: &mut Random, most: usize| random.below(most + 1) as u8;
     let mut payload = match tag {
-        1 => vec![small(random, 7), small(random, 63)],
+        1 | 6 => vec![small(random, 7), small(random, 63)],
         2 => {
             let (machines, persistent) = (random.between(1, 6) as u8, *random.pick(&[0, 0x3f]));
-            near_home(random, machines, persistent)
+            near_home(random, edition, machines, persistent)
         }
         3 if random.percent(20) => {
             let machines = random.between(1, 6) as u8;
-            near_set_crash(random, machines).to_vec()
+            near_set_crash(random, edition, machines)
         }
         3 => {
             let operation = small(random, 8);
-            let value = if operation < 5 { random.byte() } else { random.below(20) as u8 / 19 };
-            let location = if operation == 7 { random.below(20) as u8 / 19 } else { small(random, 3) };
-            vec![operation, small(random, 7), location, value, small(random, 1) * (value & 1)]
+            let unused = |random: &mut Random| random.below(30) as u8 / 29;
+            let location = if operation == 7 { unused(random) } else { small(random, 3) };
+            let value = |_| if operation < 5 { random.byte() } else { unused(random) };
+            let value: Vec<u8> = (0..width).map(value).collect();
+            [&[operation, small(random, 7), location], &value[..]].concat()
         }
         5 => {
-            let mut payload = vec![random.between(7, 12) as u8, small(random, 7), small(random, 3)];
-            payload.extend((0..4).map(|_| random.byte()));
-            payload
+            let named = [random.between(7, 12) as u8, small(random, 7), small(random, 3)];
+            [&named[..], &random.bytes(2 * width)].concat()
         }
         _ => vec![],
     };
@@ -79,10 +78,10 @@ fn some_field(random: &mut Random) -> (u8, Vec<u8>) {
         0 => payload.push(0),
         1 => drop(payload.pop()),
         2 => return (random.byte(), payload),
-        3 => payload = vec![0; *random.pick(&[65535, 65536, 65538, 65541, 65543])],
+        3 => payload = vec![0; *random.pick(&[65535, 65536, 65538, 65541, 65543, 65547])],
         // The tag, the length or the operations of the other kind of event.
         4 => return (8 - tag, payload),
-        5 if tag == 3 || tag == 5 => payload.resize(12 - payload.len(), 0),
+        5 if tag == 3 || tag == 5 => payload.resize(6 + 3 * width - payload.len(), 0),
         6 if tag == 3 || tag == 5 => payload[0] = payload[0].abs_diff(11),
         _ => {}
     }
@@ -103,7 +102,7 @@ fn one(
     let before = payload.to_vec();
     let answer = proved::record(buffer, used, tag, payload);
     report.same("the payload itself was changed", log, payload, &before[..]);
-    if answer != expected::packed(expected, expected::record) || buffer != second {
+    if answer != expected::packed(expected, expected::bytes) || buffer != second {
         let detail = format!(
             "proved {answer:#x}, second {expected:?}, used {used} of {}, tag {tag}, payload {} (the first bytes)",
             hex(buffer),
@@ -111,14 +110,15 @@ fn one(
         );
         report.differ("record", log, &detail);
     }
-    report.call("record", expected.map_or_else(|refusal| format!("refused {}", refusal.0), |_| "recorded".into()));
+    report.call("record", expected.map(|_| "recorded"));
     expected
 }
 
 /// The whole log field by field: the buffer must then hold the bytes that the encoder writes, and nothing else changed.
 fn whole(log: &[u8], records: &Log, random: &mut Random, report: &mut Report) {
     let bytes = encode(records);
-    let mut buffer: Vec<u8> = (0..bytes.len() + random.below(9)).map(|_| random.byte()).collect();
+    let spare = random.below(9);
+    let mut buffer = random.bytes(bytes.len() + spare);
     let rest = buffer[bytes.len()..].to_vec();
     let mut used = 0;
     for (tag, payload) in fields(records) {
@@ -129,5 +129,5 @@ fn whole(log: &[u8], records: &Log, random: &mut Random, report: &mut Report) {
     }
     report.same("recorded bytes", log, &buffer[..], &[&bytes[..], &rest].concat());
     report.same("recorded count", log, used, bytes.len());
-    report.call("record", "whole logs");
+    report.call("record", Ok("whole logs"));
 }

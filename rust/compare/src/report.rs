@@ -1,12 +1,21 @@
 //! What was compared, and every difference.
 
-use std::collections::BTreeMap;
+use std::collections::{BTreeMap, BTreeSet};
+use std::ops::RangeInclusive;
+
+use second::Refusal;
 
 /// So many differences are printed; the others are only counted.
 const PRINTED: usize = 10;
 
 /// After so many there is no point in going on.
 const ENOUGH: usize = 1000;
+
+/// The specification's refusals have these numbers.
+const NUMBERS: RangeInclusive<u8> = 1..=17;
+
+/// The longest accepted log of each edition has so many bytes.
+const LONGEST: [usize; 2] = [1512, 2088];
 
 /// Verdicts of one kind of logs.
 #[derive(Default)]
@@ -22,6 +31,21 @@ pub struct Verdicts {
     pub with_initial: usize,
     /// Accepted logs that have a kind byte.
     pub with_kind: usize,
+    /// Accepted logs of edition 2.
+    pub in_edition_2: usize,
+}
+
+impl Verdicts {
+    /// How many of the accepted have what an accepted log may have, each in words.
+    fn made(&self) -> [(usize, &'static str); 5] {
+        [
+            (self.with_rmw, "with read-modify-writes"),
+            (self.with_set_crash, "with set crashes"),
+            (self.with_initial, "with initial values"),
+            (self.with_kind, "with kind bytes"),
+            (self.in_edition_2, "in edition 2"),
+        ]
+    }
 }
 
 /// Counts of all that was compared.
@@ -29,18 +53,20 @@ pub struct Verdicts {
 pub struct Report {
     pub kinds: BTreeMap<&'static str, Verdicts>,
     /// How often each answer of another call came: call and answer.
-    pub calls: BTreeMap<(&'static str, String), usize>,
+    pub calls: BTreeMap<(&'static str, Result<&'static str, Refusal>), usize>,
     pub logs: usize,
     pub schedules: usize,
     pub steps: usize,
     pub steps_most: usize,
+    /// The bytes of the longest accepted log of each edition.
+    pub longest: [usize; 2],
     differences: usize,
 }
 
 impl Report {
     /// Counts one answer of a call beside the judge's.
-    pub fn call(&mut self, call: &'static str, answer: impl Into<String>) {
-        *self.calls.entry((call, answer.into())).or_default() += 1;
+    pub fn call(&mut self, call: &'static str, answer: Result<&'static str, Refusal>) {
+        *self.calls.entry((call, answer)).or_default() += 1;
     }
 
     /// A difference, with the log and what else is needed to see it again.
@@ -51,17 +77,26 @@ impl Report {
         }
     }
 
-    /// Notes each kind with fewer accepted logs than this that have a read-modify-write, a set crash, an initial value
-    /// or a kind byte. A comparison that stopped has not made all.
+    /// Notes what was not made: each kind with fewer accepted logs than this that have one thing that a log may have, a
+    /// refusal that no call gave, an edition without its longest log. A comparison that stopped has not made all.
     pub fn ask_made(&mut self, least: usize) {
         if self.is_hopeless() {
             return;
         }
-        let made = |kind: &Verdicts| [kind.with_rmw, kind.with_set_crash, kind.with_initial, kind.with_kind];
-        let few = |verdicts: &Verdicts| made(verdicts).into_iter().any(|count| count < least);
-        let kinds: Vec<_> = self.kinds.iter().filter(|(_, verdicts)| few(verdicts)).map(|(&kind, _)| kind).collect();
-        for kind in kinds {
-            self.differ("too few with read-modify-writes, set crashes, initial values or kind bytes", &[], kind);
+        let mut missing = Vec::new();
+        for (kind, verdicts) in &self.kinds {
+            let few = verdicts.made().into_iter().filter(|(count, _)| *count < least);
+            missing.extend(few.map(|(count, what)| format!("{count} logs {what} of {kind}")));
+        }
+        let refused = self.kinds.values().flat_map(|verdicts| verdicts.refused.keys().copied());
+        let calls = self.calls.keys().filter_map(|(_, answer)| answer.err());
+        let given: BTreeSet<u8> = refused.chain(calls.map(|refusal| refusal.0)).collect();
+        missing.extend(NUMBERS.filter(|number| !given.contains(number)).map(|number| format!("no refusal {number}")));
+        if self.longest != LONGEST {
+            missing.push(format!("the longest logs have {:?} bytes, not {LONGEST:?}", self.longest));
+        }
+        for what in missing {
+            self.differ("too little is compared", &[], &what);
         }
     }
 
@@ -79,26 +114,28 @@ impl Report {
 
     pub fn print(&self) {
         for (kind, verdicts) in &self.kinds {
-            let Verdicts { allowed, impossible, refused, with_rmw, with_set_crash, with_initial, with_kind } = verdicts;
+            let Verdicts { allowed, impossible, refused, .. } = verdicts;
             let turned_away: usize = refused.values().sum();
             println!("{kind}: {} logs", allowed + impossible + turned_away);
             println!("    {allowed} allowed, {impossible} impossible, {turned_away} refused{}", numbers(refused));
-            println!(
-                "    {with_rmw} of the accepted with read-modify-writes, {with_set_crash} with set crashes, \
-                 {with_initial} with initial values, {with_kind} with kind bytes"
-            );
+            let made = verdicts.made().map(|(count, what)| format!("{count} {what}"));
+            println!("    of the accepted {}", made.join(", "));
         }
         println!(
             "{} schedules replayed by both sides, {} silent steps, at most {} in one",
             self.schedules, self.steps, self.steps_most
         );
+        println!("longest accepted logs: {} bytes in edition 1, {} in edition 2", self.longest[0], self.longest[1]);
         let mut last = "";
         for ((call, answer), count) in &self.calls {
             if *call != last {
                 print!("{}{call}:", if last.is_empty() { "" } else { "\n" });
                 last = call;
             }
-            print!(" {answer} {count}");
+            match answer {
+                Ok(answer) => print!(" {answer} {count}"),
+                Err(refusal) => print!(" refused {} {count}", refusal.0),
+            }
         }
         println!();
     }

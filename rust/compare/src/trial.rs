@@ -1,11 +1,19 @@
 //! One log through every call on both sides.
 
 use corpus::Random;
-use second::{read_schedule, replay, verdict_file, Home, Log, Operation, Refusal, Replayed, Step, Verdict};
+use second::{read_schedule, replay, verdict_file, Edition, Home, Log, Operation, Refusal, Replayed, Step, Verdict};
 use second::{FILE_MOST, SCRATCH_LEAST, STEPS_MOST};
 
 use crate::report::{hex, Report, Verdicts};
-use crate::{expected, proved, recording, replaying};
+use crate::{converting, expected, proved, recording, replaying};
+
+/// What the proved judge made of an accepted log: its answer, the file, and the silent steps in it.
+#[derive(Default)]
+pub struct Judged {
+    pub answer: u64,
+    pub file: Vec<u8>,
+    pub steps: Vec<Step>,
+}
 
 /// Lent buffers, filled with noise, and what they were.
 struct Areas {
@@ -18,7 +26,7 @@ struct Areas {
 
 impl Areas {
     fn new(random: &mut Random, out: usize, offset: usize, scratch: usize) -> Areas {
-        let out: Vec<u8> = (0..out.div_ceil(8)).flat_map(|_| random.bits().to_le_bytes()).take(out).collect();
+        let out = random.bytes(out);
         let scratch: Vec<u64> = (0..scratch).map(|_| random.bits()).collect();
         Areas { out_before: out.clone(), scratch_before: scratch.clone(), out, offset, scratch }
     }
@@ -70,9 +78,10 @@ pub fn compare(kind: &'static str, log: &[u8], random: &mut Random, report: &mut
     report.logs += 1;
     report.same("read", log, proved::read(log), expected::packed(records.as_ref().map_err(|r| *r), expected::read));
     short_areas(log, random, report);
-    let steps = judged(kind, log, records.as_ref(), random, report);
-    replaying::compare(log, records.as_ref().ok(), &steps, random, report);
+    let judged = judged(kind, log, records.as_ref(), random, report);
+    replaying::compare(log, records.as_ref().ok(), &judged.steps, random, report);
     recording::compare(log, records.as_ref().ok(), random, report);
+    converting::compare(log, &judged, random, report);
     report.same("the log itself was changed", &before, log, &before[..]);
 }
 
@@ -85,17 +94,17 @@ fn short_areas(log: &[u8], random: &mut Random, report: &mut Report) {
     let answer = proved::judge(log, &mut areas.out, areas.offset, &mut areas.scratch);
     report.same("judge with short buffers", log, answer, u64::from(Refusal::BUFFER_TOO_SHORT.0));
     report.same("judge with short buffers left them unchanged", log, areas.unchanged(), true);
-    report.call("judge with short buffers", "refused 1");
+    report.call("judge with short buffers", Err(Refusal::BUFFER_TOO_SHORT));
 }
 
-/// The verdicts of both sides. Gives the schedule of the proved one.
+/// The verdicts of both sides.
 fn judged(
     kind: &'static str,
     log: &[u8],
     records: Result<&Log, &Refusal>,
     random: &mut Random,
     report: &mut Report,
-) -> Vec<Step> {
+) -> Judged {
     let mut areas = Areas::enough(random);
     let answer = proved::judge(log, &mut areas.out, areas.offset, &mut areas.scratch);
     let verdicts = report.kinds.entry(kind).or_insert_with(Verdicts::default);
@@ -105,17 +114,22 @@ fn judged(
             *verdicts.refused.entry(refusal.0).or_default() += 1;
             report.same("judge of a refused log", log, answer, u64::from(refusal.0));
             report.same("judge left the buffers of a refused log unchanged", log, areas.unchanged(), true);
-            return Vec::new();
+            return Judged::default();
         }
     };
+    let longest = &mut report.longest[records.edition as usize];
+    *longest = log.len().max(*longest);
+    verdicts.in_edition_2 += usize::from(records.edition == Edition::Second);
     let any = |is: fn(Operation) -> bool| usize::from(records.events.iter().any(|event| is(event.operation)));
     verdicts.with_rmw += any(Operation::is_rmw);
     verdicts.with_set_crash += any(|operation| operation == Operation::SetCrash);
     let some = |is: &dyn Fn(&Home) -> bool| usize::from(records.homes.iter().any(is));
     verdicts.with_initial += some(&|home| home.initial != 0);
     verdicts.with_kind += some(&|home| home.kind != records.kind_of(home.owner));
+    let length = ((answer >> 40) as usize & 0xffff).min(FILE_MOST);
+    let file = areas.out[areas.offset..][..length].to_vec();
     let verdict = second::judge(records);
-    match &verdict {
+    let steps = match &verdict {
         Verdict::Impossible(event) => {
             verdicts.impossible += 1;
             let file = verdict_file::write(&verdict);
@@ -125,18 +139,17 @@ fn judged(
         }
         Verdict::Allowed(own) => {
             verdicts.allowed += 1;
-            let steps = allowed(log, records, answer, &areas, report);
+            let steps = allowed(log, records, answer, &file, &areas, report);
             let own = verdict_file::write(&Verdict::Allowed(own.clone()));
             report.same("replay of the second judge's schedule", log, proved::replay(log, &own), 1 << 8);
             steps
         }
-    }
+    };
+    Judged { answer, file, steps }
 }
 
 /// The proved side's schedule of an allowed log, held to all that the specification says of it.
-fn allowed(log: &[u8], records: &Log, answer: u64, areas: &Areas, report: &mut Report) -> Vec<Step> {
-    let length = ((answer >> 40) as usize & 0xffff).min(areas.out.len() - areas.offset);
-    let file = &areas.out[areas.offset..areas.offset + length];
+fn allowed(log: &[u8], records: &Log, answer: u64, file: &[u8], areas: &Areas, report: &mut Report) -> Vec<Step> {
     let steps = match read_schedule(records, file) {
         Ok(steps) => steps,
         Err(_) => {
@@ -144,7 +157,7 @@ fn allowed(log: &[u8], records: &Log, answer: u64, areas: &Areas, report: &mut R
             return Vec::new();
         }
     };
-    report.same("verdict", log, answer, expected::allowed(steps.len(), length));
+    report.same("verdict", log, answer, expected::allowed(steps.len(), file.len()));
     let written = verdict_file::write(&Verdict::Allowed(steps.clone()));
     report.same("buffers after an allowed log", log, areas.holds(&written), true);
     if steps.len() > records.steps_most().min(STEPS_MOST) {

@@ -1,9 +1,9 @@
 //! Random logs and schedules.
 
 use second::log::{EVENTS_MOST, LOCATIONS_MOST};
-use second::{Event, Home, Kind, Log, Operation, Step, System};
+use second::{Edition, Event, Home, Kind, Log, Operation, Step, System};
 
-use crate::encode::kind_of;
+use crate::encode::{kind_of, value_bytes};
 use crate::Random;
 
 /// How a random log looks.
@@ -111,6 +111,7 @@ impl Shape {
         let some = random.byte() & all;
         let persistent = *random.pick(&[all, 0, some]);
         Log {
+            edition: Edition::First,
             machines: self.machines as u8,
             persistent,
             homes: (0..self.locations).map(|_| self.home(random, persistent)).collect(),
@@ -144,9 +145,9 @@ impl Shape {
             return self.crash(random, machine);
         };
         let operation = *random.pick(self.operations);
-        let value = random.below(self.values) as u16;
+        let value = random.below(self.values) as u32;
         let value = if home.initial != 0 && random.percent(50) { near_pattern(random, home.initial) } else { value };
-        let written = if operation.is_rmw() { random.below(self.values) as u16 } else { 0 };
+        let written = if operation.is_rmw() { random.below(self.values) as u32 } else { 0 };
         Event { operation, machine, location, value: if operation.uses_value() { value } else { 0 }, written }
     }
 
@@ -161,12 +162,12 @@ impl Shape {
 }
 
 /// A location of this machine, in memory of the machine's own kind.
-pub fn plain(persistent: u8, owner: u8, initial: u16) -> Home {
+pub fn plain(persistent: u8, owner: u8, initial: u32) -> Home {
     Home { owner, initial, kind: kind_of(persistent, owner) }
 }
 
 /// A location of this machine, in memory of the other kind.
-pub fn other_part(persistent: u8, owner: u8, initial: u16) -> Home {
+pub fn other_part(persistent: u8, owner: u8, initial: u32) -> Home {
     Home { kind: other(kind_of(persistent, owner)), ..plain(persistent, owner, initial) }
 }
 
@@ -179,23 +180,28 @@ pub fn other(kind: Kind) -> Kind {
 }
 
 /// An initial value other than 0: one of the values, or a high byte alone, or the largest, or any.
-fn pattern(random: &mut Random, values: usize) -> u16 {
+fn pattern(random: &mut Random, values: usize) -> u32 {
     match random.below(8) {
-        0..=3 => random.between(1, values - 1) as u16,
-        4 | 5 => (random.between(1, 0xff) as u16) << 8,
+        0..=3 => random.between(1, values - 1) as u32,
+        4 | 5 => (random.between(1, 0xff) as u32) << 8,
         6 => 0xffff,
-        _ => random.between(1, 0xffff) as u16,
+        _ => random.between(1, 0xffff) as u32,
     }
 }
 
 /// A value for a location with this initial value: the same, or what a wrong reader would take for it.
-fn near_pattern(random: &mut Random, initial: u16) -> u16 {
-    *random.pick(&[initial, initial, 0, initial.swap_bytes()])
+fn near_pattern(random: &mut Random, initial: u32) -> u32 {
+    *random.pick(&[initial, initial, 0, swapped(initial)])
+}
+
+/// A value of 16 bits with its bytes exchanged.
+fn swapped(value: u32) -> u32 {
+    value.swap_bytes() >> 16
 }
 
 /// The payload of a location's field for so many machines, some of them persistent: right, or at the edge of what is
-/// right in some of its bytes.
-pub fn near_home(random: &mut Random, machines: u8, persistent: u8) -> Vec<u8> {
+/// right in some of its bytes. In edition 2 an initial value is in either half.
+pub fn near_home(random: &mut Random, edition: Edition, machines: u8, persistent: u8) -> Vec<u8> {
     let owner = match random.below(8) {
         0 => 0,
         1 => machines + 1,
@@ -204,7 +210,8 @@ pub fn near_home(random: &mut Random, machines: u8, persistent: u8) -> Vec<u8> {
     let mut payload = vec![owner];
     if random.percent(60) {
         let initial = if random.percent(30) { 0 } else { pattern(random, 3) };
-        payload.extend(initial.to_le_bytes());
+        let high = edition == Edition::Second && random.percent(50);
+        payload.extend(value_bytes(edition, if high { initial << 16 } else { initial }));
     }
     if random.percent(60) {
         let usual = kind_of(persistent, owner);
@@ -241,7 +248,7 @@ fn set_with(random: &mut Random, machine: u8, machines: u8) -> u8 {
 }
 
 /// The payload of a set crash for so many machines, 1 to 6: right, or at the edge of what is right in some of its bytes.
-pub fn near_set_crash(random: &mut Random, machines: u8) -> [u8; 5] {
+pub fn near_set_crash(random: &mut Random, edition: Edition, machines: u8) -> Vec<u8> {
     let machine = random.between(1, machines.into()) as u8;
     let set = match random.below(8) {
         0 => 0,
@@ -252,7 +259,9 @@ pub fn near_set_crash(random: &mut Random, machines: u8) -> [u8; 5] {
         _ => set_with(random, machine, machines),
     };
     let mut unused = || if random.percent(85) { 0 } else { random.between(1, 7) as u8 };
-    [11, unused(), set, unused(), unused()]
+    let mut payload = vec![11, unused(), set];
+    payload.extend((0..edition.width()).map(|_| unused()));
+    payload
 }
 
 /// A log by simulating the system: random silent steps between the events, and each load and each read-modify-write
@@ -301,7 +310,7 @@ pub fn change_one_load(random: &mut Random, log: &Log, values: usize) -> Log {
     if !loads.is_empty() {
         let event = &mut changed.events[*random.pick(&loads)];
         let initial = log.homes[usize::from(event.location)].initial;
-        let other = random.below(values) as u16;
+        let other = random.below(values) as u32;
         let other = if initial != 0 && random.percent(50) { near_pattern(random, initial) } else { other };
         event.value = if other == event.value { other ^ 1 } else { other };
     }
@@ -326,7 +335,7 @@ pub fn litmus(random: &mut Random) -> Log {
     let mut log = plausible(random, &shape);
     let location = random.below(shape.locations) as u8;
     let here = log.events.iter().filter(|event| event.location == location);
-    let mut values: Vec<u16> = here.filter_map(Event::stored).collect();
+    let mut values: Vec<u32> = here.filter_map(Event::stored).collect();
     values.push(0);
     let initial = log.homes[usize::from(location)].initial;
     if initial != 0 {
@@ -336,7 +345,7 @@ pub fn litmus(random: &mut Random) -> Log {
     let mut last = Event { operation: Operation::Load, machine, location, value: *random.pick(&values), written: 0 };
     if random.percent(15) {
         last.operation = *random.pick(&[Operation::LRmw, Operation::RRmw, Operation::MRmw]);
-        last.written = random.below(shape.values) as u16;
+        last.written = random.below(shape.values) as u32;
     }
     log.events.push(last);
     log
@@ -359,7 +368,7 @@ pub fn power_loss(random: &mut Random) -> Log {
     };
     let mut log = plausible(random, &shape);
     let location = random.below(shape.locations) as u8;
-    let value = shape.values as u16;
+    let value = shape.values as u32;
     let event = |operation, machine, value| Event { operation, machine, location, value, written: 0 };
     let home = log.homes[usize::from(location)];
     let set = set_with(random, home.owner, log.machines);
@@ -401,7 +410,7 @@ pub fn power_on(random: &mut Random) -> Log {
     };
     let mut log = plausible(random, &shape);
     let location = random.below(shape.locations) as u8;
-    let value = shape.values as u16;
+    let value = shape.values as u32;
     let machine = |random: &mut Random| random.between(1, shape.machines) as u8;
     let event = |operation, machine, location, value| Event { operation, machine, location, value, written: 0 };
     if random.percent(80) {
@@ -417,7 +426,7 @@ pub fn power_on(random: &mut Random) -> Log {
         let location = if random.percent(60) { location } else { random.below(shape.locations) as u8 };
         let own = log.homes[usize::from(location)].initial;
         let another = random.pick(&log.homes).initial;
-        let read = *random.pick(&[own, own, own, another, value, 0, own.swap_bytes()]);
+        let read = *random.pick(&[own, own, own, another, value, 0, swapped(own)]);
         log.events.push(event(Operation::Load, machine(random), location, read));
     }
     log
@@ -439,7 +448,7 @@ pub fn two_kinds(random: &mut Random) -> Log {
         operations: some_operations(random, 60),
     };
     let mut log = plausible(random, &shape);
-    let value = shape.values as u16;
+    let value = shape.values as u32;
     let machine = |random: &mut Random| random.between(1, shape.machines) as u8;
     let event = |operation, machine, location, value| Event { operation, machine, location, value, written: 0 };
     let stores = [Operation::MStore, Operation::MStore, Operation::MStore, Operation::LStore, Operation::RStore];

@@ -1,6 +1,6 @@
 //! The fourteen marked logs of the specification, and those of requests W-202, W-203 and W-206.
 
-use second::{Event, Home, Log, Operation, Operation::*};
+use second::{Edition, Event, Home, Log, Operation, Operation::*};
 
 use crate::{other_part, plain};
 
@@ -20,7 +20,7 @@ fn marked(
     name: &'static str,
     persistent: bool,
     owners: &[u8],
-    events: &[(Operation, u8, u8, u16)],
+    events: &[(Operation, u8, u8, u32)],
     impossible: Option<u8>,
 ) -> Marked {
     let homes = owners.iter().map(|&owner| plain(all(persistent), owner, 0)).collect();
@@ -40,7 +40,7 @@ fn filled(
     name: &'static str,
     persistent: bool,
     homes: Vec<Home>,
-    events: &[(Operation, u8, u8, u16)],
+    events: &[(Operation, u8, u8, u32)],
     impossible: Option<u8>,
 ) -> Marked {
     let events = events.iter().map(|&(operation, machine, location, value)| Event {
@@ -50,7 +50,8 @@ fn filled(
         value,
         written: 0,
     });
-    Marked { name, log: Log { machines: 3, persistent: all(persistent), homes, events: events.collect() }, impossible }
+    let (edition, persistent) = (Edition::First, all(persistent));
+    Marked { name, log: Log { edition, machines: 3, persistent, homes, events: events.collect() }, impossible }
 }
 
 /// The fourteen, in their order.

@@ -37,6 +37,15 @@ impl Random {
         self.bits() as u8
     }
 
+    /// So many random bytes.
+    pub fn bytes(&mut self, count: usize) -> Vec<u8> {
+        let mut bytes = vec![0; count];
+        for eight in bytes.chunks_mut(8) {
+            eight.copy_from_slice(&self.bits().to_le_bytes()[..eight.len()]);
+        }
+        bytes
+    }
+
     /// One of the items; there must be one.
     pub fn pick<'a, T>(&mut self, items: &'a [T]) -> &'a T {
         &items[self.below(items.len())]

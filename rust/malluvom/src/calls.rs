@@ -1,9 +1,9 @@
-//! The four calls of the proved library. The only `unsafe` of this crate is here: each call hands over slices as
+//! The five calls of the proved library. The only `unsafe` of this crate is here: each call hands over slices as
 //! pointer and length, and the library asks nothing of the numbers beside them.
 
 use crate::Refusal;
 
-pub use malluvom_sys::{FILE_MOST, SCRATCH_LEAST};
+pub use malluvom_sys::{CONVERT_LEAST, FILE_MOST, LOG_MOST, SCRATCH_LEAST};
 
 /// How much an accepted log holds.
 #[derive(Clone, Copy, Debug, PartialEq, Eq)]
@@ -84,6 +84,40 @@ pub fn read(log: &[u8]) -> Result<Counts, Refusal> {
         locations: bits(answer, 16, 8) as u8,
         events: bits(answer, 24, 8) as u8,
     })
+}
+
+/// Writes a log in the other edition from the first byte of the output on, which has at least [`CONVERT_LEAST`] bytes,
+/// and gives its length. The rest of the output stays as it is, and a refusal changes nothing.
+pub fn convert_into(log: &[u8], out: &mut [u8]) -> Result<usize, Refusal> {
+    let answer = unsafe { malluvom_sys::cxl0_convert(log.as_ptr(), log.len(), out.as_mut_ptr(), out.len()) };
+    Ok(bits(accepted(answer)?, 8, 24) as usize)
+}
+
+/// An accepted log in the other edition; one of edition 2 with a value over 65,535 is refused
+/// ([`Refusal::ValueTooLarge`]). There and back gives the same bytes, and the verdict is the same in both.
+///
+/// ```
+/// use malluvom::{convert, Edition, Judge, Recorder, Refusal};
+///
+/// let mut recorder = Recorder::in_edition(Edition::Second, 1, 0b1)?;
+/// recorder.location(1)?;
+/// recorder.event(3, 1, 0, 65_535)?;             // MStore by 1 to L0 of 65535
+/// let wide = recorder.finish()?;
+/// let narrow = convert(&wide)?;
+/// assert_eq!((wide.len(), narrow.len()), (22, 20));
+/// assert_eq!(convert(&narrow)?, wide);
+/// assert_eq!(Judge::new().judge(&narrow), Judge::new().judge(&wide));
+///
+/// let mut recorder = Recorder::in_edition(Edition::Second, 1, 0b1)?;
+/// recorder.location_initially(1, 65_536)?;
+/// assert_eq!(convert(&recorder.finish()?), Err(Refusal::ValueTooLarge));
+/// # Ok::<(), Refusal>(())
+/// ```
+pub fn convert(log: &[u8]) -> Result<Vec<u8>, Refusal> {
+    let mut out = vec![0; CONVERT_LEAST];
+    let length = convert_into(log, &mut out)?;
+    out.truncate(length);
+    Ok(out)
 }
 
 /// Follows a log with the silent steps of a verdict file that says allowed.

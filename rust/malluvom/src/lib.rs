@@ -2,7 +2,7 @@
 //!
 //! A log is a row of loads, stores, read-modify-writes, flushes and crashes of a Compute Express Link shared-memory
 //! system. The judge says whether some choice of silent steps, copies that move between caches and to memory, explains
-//! it. The four calls are those of the proved library with typed answers; [`Judge`] keeps the buffers that judging needs.
+//! it. The calls are those of the proved library with typed answers; [`Judge`] keeps the buffers that judging needs.
 //!
 //! ```
 //! use malluvom::{Judge, Recorder, Verdict};
@@ -22,6 +22,7 @@
 //! ```
 
 mod calls;
+mod edition;
 mod judging;
 pub mod log;
 mod machine_set;
@@ -29,7 +30,9 @@ mod recorder;
 mod refusal;
 pub mod schedule;
 
-pub use calls::{judge_into, read, record, replay, Counts, Judged, Replayed, FILE_MOST, SCRATCH_LEAST};
+pub use calls::{convert, convert_into, judge_into, read, record, replay, Counts, Judged, Replayed};
+pub use calls::{CONVERT_LEAST, FILE_MOST, LOG_MOST, SCRATCH_LEAST};
+pub use edition::Edition;
 pub use judging::{Judge, Verdict};
 pub use log::{Event, Home, Kind, Log, Operation};
 pub use machine_set::MachineSet;

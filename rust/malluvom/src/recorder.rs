@@ -1,21 +1,23 @@
-use crate::{record, Home, Kind, MachineSet, Refusal};
+use crate::{record, Edition, Home, Kind, MachineSet, Refusal, LOG_MOST};
 
-/// An accepted log has at most 32 locations, of which those with an initial value and a kind are the longest, and 128
-/// events, of which read-modify-writes are.
-const LOG_MOST: usize = 5 + 32 * 7 + 128 * 10 + 3;
-
-/// Builds a log field by field; each is checked by the proved recorder.
+/// Builds a log field by field; each is checked by the proved recorder. Before that, a value that has no bytes in the
+/// log's edition is refused with [`Refusal::ValueTooLarge`].
 pub struct Recorder {
     buffer: [u8; LOG_MOST],
     used: usize,
 }
 
 impl Recorder {
-    /// A log of a system with so many machines; bit i - 1 of `persistent` is set if machine i's memory is persistent,
-    /// but for locations of the other kind.
+    /// A log of edition 1 of a system with so many machines; bit i - 1 of `persistent` is set if machine i's memory is
+    /// persistent, but for locations of the other kind.
     pub fn new(machines: u8, persistent: u8) -> Result<Recorder, Refusal> {
+        Recorder::in_edition(Edition::First, machines, persistent)
+    }
+
+    /// The same in either edition.
+    pub fn in_edition(edition: Edition, machines: u8, persistent: u8) -> Result<Recorder, Refusal> {
         let mut recorder = Recorder::empty();
-        recorder.field(0x01, &[machines, persistent])?;
+        recorder.field(edition.tag(), &[machines, persistent])?;
         Ok(recorder)
     }
 
@@ -31,25 +33,23 @@ impl Recorder {
 
     /// The next location, in the memory of this machine, of the machine's kind, which holds the initial value at
     /// power-on and, if it is volatile, again after a crash.
-    pub fn location_initially(&mut self, owner: u8, initial: u16) -> Result<(), Refusal> {
+    pub fn location_initially(&mut self, owner: u8, initial: u32) -> Result<(), Refusal> {
         self.home(Home { owner, initial, kind: Kind::of_machine(owner, self.persistent()) })
     }
 
     /// The next location, in memory of either kind. An initial value of 0 and the owner's own kind have no bytes.
     pub fn home(&mut self, home: Home) -> Result<(), Refusal> {
-        self.field(0x02, &home.payload(self.persistent()))
+        self.field(0x02, &home.payload(self.edition(), self.persistent())?)
     }
 
     /// The next event, with an operation from 1 to 7 or 11. What it does not use must be 0.
-    pub fn event(&mut self, operation: u8, machine: u8, location: u8, value: u16) -> Result<(), Refusal> {
-        let [low, high] = value.to_le_bytes();
-        self.field(0x03, &[operation, machine, location, low, high])
+    pub fn event(&mut self, operation: u8, machine: u8, location: u8, value: u32) -> Result<(), Refusal> {
+        self.field(0x03, &self.edition().payload(&[operation, machine, location], &[value])?)
     }
 
     /// The next event, a read-modify-write with an operation from 8 to 10.
-    pub fn rmw(&mut self, operation: u8, machine: u8, location: u8, read: u16, written: u16) -> Result<(), Refusal> {
-        let ([low, high], [written_low, written_high]) = (read.to_le_bytes(), written.to_le_bytes());
-        self.field(0x05, &[operation, machine, location, low, high, written_low, written_high])
+    pub fn rmw(&mut self, operation: u8, machine: u8, location: u8, read: u32, written: u32) -> Result<(), Refusal> {
+        self.field(0x05, &self.edition().payload(&[operation, machine, location], &[read, written])?)
     }
 
     /// The next event, a crash of two machines or more in one step.
@@ -61,6 +61,12 @@ impl Recorder {
     pub fn field(&mut self, tag: u8, payload: &[u8]) -> Result<(), Refusal> {
         self.used = record(&mut self.buffer, self.used, tag, payload)?;
         Ok(())
+    }
+
+    /// The edition, by the first field. Without it a field with values is refused whatever its bytes, and every value
+    /// has bytes in edition 2.
+    fn edition(&self) -> Edition {
+        Edition::of_log(self.bytes()).unwrap_or(Edition::Second)
     }
 
     /// The persistent machines: the last byte of the first field. Without it a location is refused whatever its bytes.

@@ -36,11 +36,13 @@ pub enum Refusal {
     BadMachineSet,
     /// A kind byte other than the one that differs from the owner's.
     BadKind,
+    /// A value over 65,535, which has no bytes in edition 1.
+    ValueTooLarge,
 }
 
 impl Refusal {
     /// All refusals, by rising number.
-    pub const ALL: [Refusal; 16] = [
+    pub const ALL: [Refusal; 17] = [
         Refusal::BufferTooShort,
         Refusal::Truncated,
         Refusal::UnexpectedTag,
@@ -57,6 +59,7 @@ impl Refusal {
         Refusal::BadInitialValue,
         Refusal::BadMachineSet,
         Refusal::BadKind,
+        Refusal::ValueTooLarge,
     ];
 
     /// The number of the specification.
@@ -88,6 +91,7 @@ impl Refusal {
             Refusal::BadInitialValue => "an initial value of 0 has no bytes: the length must be 1, or 2 with a kind",
             Refusal::BadMachineSet => "fewer than two machines crash together, or one that is not there",
             Refusal::BadKind => "the kind byte is not 1 where the owner is persistent, or not 2 where it is volatile",
+            Refusal::ValueTooLarge => "a value over 65535 has no bytes in edition 1",
         }
     }
 }

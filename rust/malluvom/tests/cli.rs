@@ -4,7 +4,7 @@ use std::fs;
 use std::path::{Path, PathBuf};
 use std::process::{Command, Output};
 
-use corpus::{damage, encode, plausible, random_log, Random, Shape};
+use corpus::{damage, encode, plausible, random_log, widened, Random, Shape};
 
 fn tool(words: &[&str]) -> Output {
     Command::new(env!("CARGO_BIN_EXE_malluvom")).args(words).output().unwrap()
@@ -455,6 +455,121 @@ fn bad_kinds_are_refused() {
 }
 
 #[test]
+fn editions_are_written_down() {
+    let pair = Pair::new("editions-unchecked");
+    let lines = "machines 2 persistent 1\nL0 of 2\nL1 of 1 initially 258\nL2 of 1 initially 258 volatile\n\
+                 LStore 1 L0 258\nLFlush 1 L0\nCrash of 1, 2\nL-RMW 1 L0 258 65535\nend";
+    let first = [
+        &[1, 2, 0, 2, 1, 2, 1, 0, 2, 2, 3, 0, 1, 2, 1, 2, 4, 0, 1, 2, 1, 1, 3, 5, 0, 1, 1, 0, 2, 1][..],
+        &[3, 5, 0, 5, 1, 0, 0, 0, 3, 5, 0, 11, 0, 3, 0, 0, 5, 7, 0, 8, 1, 0, 2, 1, 255, 255, 4, 0, 0],
+    ];
+    let second = [
+        &[6, 2, 0, 2, 1, 2, 1, 0, 2, 2, 5, 0, 1, 2, 1, 0, 0, 2, 6, 0, 1, 2, 1, 0, 0, 1][..],
+        &[3, 7, 0, 1, 1, 0, 2, 1, 0, 0, 3, 7, 0, 5, 1, 0, 0, 0, 0, 0, 3, 7, 0, 11, 0, 3, 0, 0, 0, 0],
+        &[5, 11, 0, 8, 1, 0, 2, 1, 0, 0, 255, 255, 0, 0, 4, 0, 0],
+    ];
+    for (line, bytes) in [("", first.concat()), ("edition 1", first.concat()), ("Edition 0x2", second.concat())] {
+        assert_eq!(pair.assemble(&format!("{line}\n{lines}")), bytes, "{line}");
+        assert_eq!(pair.fields(&format!("{line}\n{lines}")), bytes, "{line}");
+    }
+    // What follows the line is of its edition, in an unchecked text wherever it stands.
+    assert_eq!(
+        pair.fields("machines 1 persistent all\nedition 2\nMStore 1 L0 0x4030201\nedition 1\nMStore 1 L0 513"),
+        [&[1, 2, 0, 1, 1][..], &[3, 7, 0, 3, 1, 0, 1, 2, 3, 4], &[3, 5, 0, 3, 1, 0, 1, 2]].concat()
+    );
+}
+
+/// The largest values, in a log of edition 2 that is allowed with one silent step.
+const WIDE_TEXT: &str = "edition 2\nmachines 2 persistent all\nL0 of 2 initially 65536\n\
+                         LStore by 1 to L0 of 4294967295\nLFlush by 1 of L0\nCrash of 2\n\
+                         L-RMW by 1 of L0, 65536 to 4294967294";
+
+#[test]
+fn values_of_32_bits_are_shown_explained_and_drawn() {
+    let pair = Pair::new("wide");
+    pair.assemble(WIDE_TEXT);
+    let verdict = pair.log.replace(".log", ".verdict");
+    assert_eq!(print(&["judge", "--write", &pair.log]), format!("{}: allowed 1\n", pair.log));
+    assert_eq!(print(&["replay", &pair.log, &verdict]), "yes\n");
+    let shown = print(&["show", &pair.log, &verdict]);
+    assert!(shown.contains("LStore by 1 to L0 of 4294967295") && shown.contains("~ propagate by 1 of L0"), "{shown}");
+    let explained = pair.explain();
+    assert!(explained.contains("cache of 1 holds 4294967295, memory 65536"), "{explained}");
+    assert!(explained.contains("L0: 65536 loaded from memory, then cache of 1 holds 4294967294"), "{explained}");
+    let shown = pair.show();
+    assert!(shown.starts_with("edition 2\nmachines 2 persistent all\nL0 of 2 initially 65536\n\n"), "{shown}");
+    // Each value stands in its bar.
+    let svg = pair.draw("L0");
+    let number = |line: &str, name: &str, nth: usize| -> usize {
+        line.split(&format!(" {name}=\"")).nth(nth).unwrap().split('"').next().unwrap().parse().unwrap()
+    };
+    let bars: Vec<&str> = svg.lines().filter(|line| line.contains("class=\"value\"")).collect();
+    assert!(bars.iter().any(|bar| bar.contains(">4294967295<")) && bars.len() == 4, "{svg}");
+    assert!(bars.iter().all(|bar| number(bar, "x", 1) <= number(bar, "x", 2)), "{svg}");
+    // A load that no run explains, and what it could return.
+    pair.assemble(&format!("{WIDE_TEXT}\nLoad by 2 of L0, 65537"));
+    let why = pair.why();
+    assert!(why.starts_with("impossible: event 5, Load by 2 of L0, 65537\n"), "{why}");
+    assert!(why.contains("a load by 2 of L0 can return 4294967294, not 65537.\n"), "{why}");
+    assert!(why.contains("Nothing before it stores 65537 to L0.\n"), "{why}");
+}
+
+#[test]
+fn logs_are_converted_there_and_back() {
+    let folder = folder("convert");
+    let [there, back] = ["there.log", "back.log"].map(|name| folder.join(name).to_str().unwrap().to_string());
+    for path in examples("log") {
+        let bytes = fs::read(&path).unwrap();
+        let path = path.to_str().unwrap();
+        if malluvom::read(&bytes).is_err() {
+            assert_eq!(status(&tool(&["convert", path, "-o", &there])), 2, "{path}");
+            continue;
+        }
+        let converted = tool(&["convert", path]);
+        if status(&converted) != 0 {
+            let errors = String::from_utf8_lossy(&converted.stderr).into_owned();
+            assert!(bytes[0] == 6 && errors.contains(": number 17 (ValueTooLarge): "), "{path}: {errors}");
+            continue;
+        }
+        assert_eq!(status(&tool(&["convert", path, "-o", &there])), 0, "{path}");
+        assert_eq!(converted.stdout, fs::read(&there).unwrap(), "{path}");
+        assert_eq!(bytes[0] + converted.stdout[0], 0x01 + 0x06, "{path}");
+        assert_eq!(status(&tool(&["convert", &there, "-o", &back])), 0, "{path}");
+        assert_eq!(fs::read(&back).unwrap(), bytes, "{path}");
+        let verdict = |log: &str| print(&["judge", "--json", log]).split_once(',').unwrap().1.to_string();
+        assert_eq!(verdict(path), verdict(&there));
+    }
+}
+
+#[test]
+fn what_edition_1_has_no_bytes_for_is_not_converted() {
+    let pair = Pair::new("convert-refused");
+    let refused = |text: &str| {
+        pair.assemble(text);
+        let output = tool(&["convert", &pair.log]);
+        assert_eq!((status(&output), output.stdout.len()), (2, 0), "{text}");
+        String::from_utf8(output.stderr).unwrap()
+    };
+    let head = "edition 2\nmachines 1 persistent all\nL0 of 1 initially 65535";
+    for (lines, place) in [
+        ("L1 of 1 initially 65536", "field 3, at byte 13"),
+        ("MStore by 1 to L0 of 65535\nMStore by 1 to L0 of 65536", "field 4, at byte 23"),
+        ("Load by 1 of L0, 65536\nLoad by 1 of L0, 65537", "field 3, at byte 13"),
+        ("L-RMW by 1 of L0, 4294967295 to 1", "field 3, at byte 13"),
+        ("L-RMW by 1 of L0, 1 to 4294967295", "field 3, at byte 13"),
+    ] {
+        let errors = refused(&format!("{head}\n{lines}"));
+        let expected = format!("malluvom: {}: {place}: number 17 (ValueTooLarge): ", pair.log);
+        assert!(errors.starts_with(&expected), "{lines}: {errors}");
+    }
+    // A log that is not accepted is refused for that.
+    let errors = refused(
+        "unchecked\nedition 2\nmachines 1 persistent all\nL0 of 1 initially 65536\nedition 1\nL1 of 1 initially 7",
+    );
+    assert!(errors.contains(": field 3, at byte 13: number 4 (WrongLength): "), "{errors}");
+}
+
+#[test]
 fn folders_and_json() {
     let root = Path::new(env!("CARGO_MANIFEST_DIR")).join("../../examples/marked");
     let judged = tool(&["judge", "--json", root.to_str().unwrap()]);
@@ -481,7 +596,23 @@ fn errors_have_status_2_and_say_what_is_wrong() {
         ("machines 2 persistent all\nL1 of 1", ":2: the next location is L0"),
         ("machines 2 persistent all\nL0 of 3", ":2: number 6 (BadOwner)"),
         ("machines 2 persistent all\nL0 of 3 initially 7", ":2: number 6 (BadOwner)"),
-        ("machines 2 persistent all\nL0 of 1 initially 65536", "'65536' is no number that fits"),
+        (
+            "machines 2 persistent all\nL0 of 1 initially 65536",
+            ":2: '65536' is no number that fits here: values of edition 1 go to 65535",
+        ),
+        (
+            "edition 2\nmachines 2 persistent all\nL0 of 1 initially 4294967296",
+            ":3: '4294967296' is no number that fits",
+        ),
+        ("edition 1\nmachines 2 persistent all\nL0 of 1 initially 65536", ":3: '65536' is no number that fits"),
+        ("edition 3", ":1: there is no edition 3, only 1 and 2"),
+        ("edition two", ":1: 'two' is no number that fits"),
+        ("edition", ":1: the edition is 'edition 1' or 'edition 2'"),
+        ("edition 2 2", ":1: the edition is 'edition 1' or 'edition 2'"),
+        ("edition 2", ":1: no 'machines' line"),
+        ("edition 1\nedition 2\nmachines 2 persistent all", ":2: the edition is named twice"),
+        ("machines 2 persistent all\nedition 2", ":2: 'edition' must come before the 'machines' line"),
+        ("unchecked\nedition 2\nedition 1\nMStore 1 L0 65536", ":4: '65536' is no number that fits"),
         ("machines 2 persistent all\nL0 of 1 initially", NO_LOCATION),
         ("machines 2 persistent all\nL0 of 1 7", NO_LOCATION),
         ("machines 2 persistent all\nL0 of 1 finally 7", NO_LOCATION),
@@ -531,6 +662,8 @@ fn errors_have_status_2_and_say_what_is_wrong() {
         &["judge"],
         &["asm"],
         &["asm", "a", "b"],
+        &["convert"],
+        &["convert", "/nowhere"],
         &["show", "/nowhere"],
         &["frobnicate"],
         &["judge", "--fast", "x"],
@@ -541,7 +674,7 @@ fn errors_have_status_2_and_say_what_is_wrong() {
     }
     let help = tool(&["help"]);
     assert_eq!(status(&help), 0);
-    assert!(!help.stdout.is_empty());
+    assert!(String::from_utf8_lossy(&help.stdout).contains("\n  malluvom convert LOG [-o LOG]\n"));
     for words in [&[][..], &["--help"], &["-h"]] {
         assert_eq!(tool(words).stdout, help.stdout, "{words:?}");
     }
@@ -554,14 +687,19 @@ fn no_bytes_make_it_panic() {
     let mut random = Random::new(6);
     for round in 0..120 {
         let shape = Shape { crashes: 20, set_crashes: 50, patterns: 50, kinds: 50, ..Shape::random(&mut random) };
-        let bytes = match round % 4 {
+        let bytes = match round % 5 {
             0 => {
                 let length = random.below(300);
                 (0..length).map(|_| random.byte()).collect()
             }
             1 => encode(&random_log(&mut random, &shape)),
+            2 => {
+                let log = random_log(&mut random, &shape);
+                encode(&widened(&mut random, &log))
+            }
             _ => {
                 let log = plausible(&mut random, &shape);
+                let log = if random.percent(50) { widened(&mut random, &log) } else { log };
                 damage(&mut random, &encode(&log))
             }
         };
@@ -577,6 +715,7 @@ fn no_bytes_make_it_panic() {
             &["asm", log][..],
             &["show", log],
             &["show", log, file],
+            &["convert", log],
             &["judge", log, file],
             &["replay", log, file],
             &["explain", log],
@@ -595,6 +734,7 @@ fn no_text_makes_it_panic() {
     let folder = folder("words");
     let path = folder.join("a.txt");
     let words = [
+        "edition",
         "machines",
         "persistent",
         "all",
@@ -628,6 +768,7 @@ fn no_text_makes_it_panic() {
         "255",
         "256",
         "65536",
+        "4294967295",
         "99999999999",
         "-1",
         "0x",

@@ -8,18 +8,18 @@ pub(crate) struct Local {
     /// Bit i - 1 is set if machine i's cache holds a value.
     holders: u8,
     /// The value in machine i's cache, at i - 1; 0 where it holds none.
-    copies: [u16; 6],
-    memory: u16,
+    copies: [u32; 6],
+    memory: u32,
 }
 
 impl Local {
     /// No cache holds anything, and this is in memory.
-    pub(crate) fn in_memory(memory: u16) -> Local {
+    pub(crate) fn in_memory(memory: u32) -> Local {
         Local { holders: 0, copies: [0; 6], memory }
     }
 
     /// What a machine's cache holds.
-    fn cache(&self, machine: u8) -> Option<u16> {
+    fn cache(&self, machine: u8) -> Option<u32> {
         let i = machine - 1;
         (self.holders >> i & 1 == 1).then(|| self.copies[usize::from(i)])
     }
@@ -69,7 +69,7 @@ impl Local {
         Some(self.without_copy(machine).with_copy(owner, value))
     }
 
-    fn with_copy(&self, machine: u8, value: u16) -> Local {
+    fn with_copy(&self, machine: u8, value: u32) -> Local {
         let mut next = *self;
         next.holders |= 1 << (machine - 1);
         next.copies[usize::from(machine - 1)] = value;
@@ -83,7 +83,7 @@ impl Local {
         next
     }
 
-    fn all_hold(&self, value: u16) -> bool {
+    fn all_hold(&self, value: u32) -> bool {
         (1..=6).all(|machine| self.cache(machine).is_none_or(|copy| copy == value))
     }
 }

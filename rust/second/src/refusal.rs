@@ -37,6 +37,8 @@ impl Refusal {
     pub const BAD_MACHINE_SET: Refusal = Refusal(15);
     /// A kind byte other than the one that differs from the owner's.
     pub const BAD_KIND: Refusal = Refusal(16);
+    /// The converter: a value that edition 1 has no bytes for.
+    pub const VALUE_TOO_LARGE: Refusal = Refusal(17);
 }
 
 impl fmt::Display for Refusal {

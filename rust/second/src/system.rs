@@ -6,9 +6,9 @@ use crate::{log, read_schedule, Event, Kind, Log, Operation, Refusal, Step};
 #[derive(Clone, Debug, PartialEq, Eq, Hash)]
 pub struct System {
     /// What each machine's cache holds for each location.
-    caches: Vec<Vec<Option<u16>>>,
+    caches: Vec<Vec<Option<u32>>>,
     /// What the owner's memory holds for each location.
-    memory: Vec<u16>,
+    memory: Vec<u32>,
 }
 
 impl System {
@@ -21,7 +21,7 @@ impl System {
     }
 
     /// The value that a load of the location returns: that of some cache that holds it, or else of the memory.
-    pub fn visible(&self, location: u8) -> u16 {
+    pub fn visible(&self, location: u8) -> u32 {
         let x = usize::from(location);
         let copy = self.caches.iter().find_map(|cache| cache[x]);
         copy.unwrap_or(self.memory[x])
@@ -143,7 +143,7 @@ impl System {
         }
     }
 
-    fn clear_then_put(&mut self, x: usize, machine: usize, value: u16) {
+    fn clear_then_put(&mut self, x: usize, machine: usize, value: u32) {
         self.clear(x);
         self.caches[machine][x] = Some(value);
     }

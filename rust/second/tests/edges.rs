@@ -192,10 +192,16 @@ fn nothing_after_the_end() {
 
 fn crashes(locations: usize, events: usize) -> Log {
     let crash = Event { operation: Operation::Crash, machine: 1, location: 0, value: 0, written: 0 };
-    Log { machines: 6, persistent: 0, homes: vec![plain(0, 6, 0); locations], events: vec![crash; events] }
+    Log {
+        machines: 6,
+        persistent: 0,
+        homes: vec![plain(0, 6, 0); locations],
+        events: vec![crash; events],
+        ..Log::default()
+    }
 }
 
-fn rmw(operation: Operation, value: u16, written: u16) -> Event {
+fn rmw(operation: Operation, value: u32, written: u32) -> Event {
     Event { operation, machine: 1, location: 0, value, written }
 }
 
@@ -298,7 +304,8 @@ fn lent_buffers_come_first() {
 
 /// A schedule that hands a copy on and writes it back after each store: two steps for each of 128 stores.
 fn longest(store: Event) -> (Log, Vec<Step>) {
-    let log = Log { machines: 2, persistent: 3, homes: vec![plain(3, 2, 0)], events: vec![store; 128] };
+    let log =
+        Log { machines: 2, persistent: 3, homes: vec![plain(3, 2, 0)], events: vec![store; 128], ..Log::default() };
     let both = |before| [1, 0].map(|machine| Step { before, location: 0, machine });
     (log, (1..=128).flat_map(both).collect())
 }

@@ -8,29 +8,29 @@ use corpus::{crash, encode, plain, power_on, set_crash, Random};
 use searches::first_impossible;
 use second::{read, replay, Event, Home, Log, Operation, Replayed, Step, System};
 
-fn event(operation: Operation, machine: u8, location: u8, value: u16) -> Event {
+fn event(operation: Operation, machine: u8, location: u8, value: u32) -> Event {
     Event { operation, machine, location, value, written: 0 }
 }
 
-fn load(location: u8, value: u16) -> Event {
+fn load(location: u8, value: u32) -> Event {
     event(Operation::Load, 3, location, value)
 }
 
-fn store(location: u8, value: u16) -> Event {
+fn store(location: u8, value: u32) -> Event {
     event(Operation::MStore, 3, location, value)
 }
 
 /// Three machines, and locations by owner and initial value.
-fn log(persistent: u8, homes: &[(u8, u16)], events: &[Event]) -> Log {
+fn log(persistent: u8, homes: &[(u8, u32)], events: &[Event]) -> Log {
     let homes = homes.iter().map(|&(owner, initial)| plain(persistent, owner, initial)).collect();
-    Log { machines: 3, persistent, homes, events: events.to_vec() }
+    Log { machines: 3, persistent, homes, events: events.to_vec(), ..Log::default() }
 }
 
 /// The values that the last load of a location can return, of those that a wrong reading might give.
-fn loadable(log: &Log, location: u8) -> Vec<u16> {
+fn loadable(log: &Log, location: u8) -> Vec<u32> {
     let with = |value| Log { events: [&log.events[..], &[load(location, value)]].concat(), ..log.clone() };
-    let mut values: Vec<u16> = log.homes.iter().map(|home| home.initial).collect();
-    values.extend(values.clone().iter().map(|value| value.swap_bytes()));
+    let mut values: Vec<u32> = log.homes.iter().map(|home| home.initial).collect();
+    values.extend(values.clone().iter().map(|value| value.swap_bytes() >> 16));
     values.extend([0, 1, 2, 3, 255, 256, 0xffff]);
     values.sort();
     values.dedup();
@@ -85,7 +85,7 @@ fn a_crash_returns_what_the_machine_owns() {
             for (location, (owner, initial)) in (0..).zip(homes) {
                 let owner = 1 << (owner - 1);
                 let returns = set & owner != 0 && persistent & owner == 0;
-                let expected = if returns { initial } else { u16::from(location) + 1 };
+                let expected = if returns { initial } else { u32::from(location) + 1 };
                 assert_eq!(loadable(&log, location), [expected], "{persistent:#b} {set:#b}");
             }
         }

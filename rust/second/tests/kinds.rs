@@ -8,22 +8,22 @@ use corpus::{crash, encode, other, other_part, plain, power_loss, power_on, set_
 use searches::first_impossible;
 use second::{judge, read, replay, Event, Home, Kind, Log, Operation, Refusal, Replayed, Step};
 
-fn event(operation: Operation, machine: u8, location: u8, value: u16) -> Event {
+fn event(operation: Operation, machine: u8, location: u8, value: u32) -> Event {
     Event { operation, machine, location, value, written: 0 }
 }
 
-fn load(location: u8, value: u16) -> Event {
+fn load(location: u8, value: u32) -> Event {
     event(Operation::Load, 3, location, value)
 }
 
 fn log(persistent: u8, homes: &[Home], events: &[Event]) -> Log {
-    Log { machines: 3, persistent, homes: homes.to_vec(), events: events.to_vec() }
+    Log { machines: 3, persistent, homes: homes.to_vec(), events: events.to_vec(), ..Log::default() }
 }
 
 /// The values that a last load of a location can return.
-fn loadable(log: &Log, location: u8) -> Vec<u16> {
+fn loadable(log: &Log, location: u8) -> Vec<u32> {
     let with = |value| Log { events: [&log.events[..], &[load(location, value)]].concat(), ..log.clone() };
-    let mut values: Vec<u16> = log.homes.iter().map(|home| home.initial).collect();
+    let mut values: Vec<u32> = log.homes.iter().map(|home| home.initial).collect();
     values.extend(0..=3);
     values.sort();
     values.dedup();
@@ -89,7 +89,7 @@ fn a_crash_asks_each_location() {
                 let log = log(persistent, &homes, &[&stores[..], &[fall]].concat());
                 for (location, home) in (0..).zip(homes) {
                     let returns = set & 1 << (home.owner - 1) != 0 && home.kind == Kind::Volatile;
-                    let expected = if returns { home.initial } else { u16::from(location) + 1 };
+                    let expected = if returns { home.initial } else { u32::from(location) + 1 };
                     assert_eq!(loadable(&log, location), [expected], "{persistent:#b} {kinds:#b} {set:#b}");
                 }
             }

@@ -7,15 +7,15 @@ use second::{replay, Event, Log, Operation, Replayed, Step};
 
 const FORMS: [Operation; 3] = [Operation::LRmw, Operation::RRmw, Operation::MRmw];
 
-fn event(operation: Operation, machine: u8, value: u16, written: u16) -> Event {
+fn event(operation: Operation, machine: u8, value: u32, written: u32) -> Event {
     Event { operation, machine, location: 0, value, written }
 }
 
-fn rmw(operation: Operation, value: u16, written: u16) -> Event {
+fn rmw(operation: Operation, value: u32, written: u32) -> Event {
     event(operation, 1, value, written)
 }
 
-fn load(machine: u8, value: u16) -> Event {
+fn load(machine: u8, value: u32) -> Event {
     event(Operation::Load, machine, value, 0)
 }
 
@@ -25,7 +25,7 @@ fn crash(machine: u8) -> Event {
 
 /// Three persistent machines and one location of machine 2.
 fn log(events: &[Event]) -> Log {
-    Log { machines: 3, persistent: 7, homes: vec![plain(7, 2, 0)], events: events.to_vec() }
+    Log { machines: 3, persistent: 7, homes: vec![plain(7, 2, 0)], events: events.to_vec(), ..Log::default() }
 }
 
 /// The first impossible event of these.

@@ -6,16 +6,16 @@ use corpus::{crash, encode, marked::apart_and_together, plain, power_loss, rando
 use searches::first_impossible;
 use second::{judge, read, replay, Event, Log, Operation, Refusal, Replayed, Step, Verdict};
 
-fn event(operation: Operation, machine: u8, value: u16) -> Event {
+fn event(operation: Operation, machine: u8, value: u32) -> Event {
     Event { operation, machine, location: 0, value, written: 0 }
 }
 
-fn load(machine: u8, value: u16) -> Event {
+fn load(machine: u8, value: u32) -> Event {
     event(Operation::Load, machine, value)
 }
 
 fn log(persistent: u8, owner: u8, events: &[Event]) -> Log {
-    Log { machines: 3, persistent, homes: vec![plain(persistent, owner, 0)], events: events.to_vec() }
+    Log { machines: 3, persistent, homes: vec![plain(persistent, owner, 0)], events: events.to_vec(), ..Log::default() }
 }
 
 #[test]
@@ -36,7 +36,7 @@ fn code_tag_and_machines() {
 fn which_sets_are_sets() {
     for machines in 1..=6 {
         for set in 0..=255 {
-            let log = Log { machines, persistent: 0, homes: vec![], events: vec![set_crash(set)] };
+            let log = Log { machines, persistent: 0, homes: vec![], events: vec![set_crash(set)], ..Log::default() };
             let absent = (machines..8).any(|bit| set & 1 << bit != 0);
             let expected = match (0..8).filter(|bit| set & 1 << bit != 0).count() {
                 0 | 1 => Err(Refusal(15)),

@@ -3,7 +3,7 @@
 use std::ffi::OsString;
 use std::path::Path;
 
-use malluvom::{Home, Kind, Recorder, Schedule, Step};
+use malluvom::{Edition, Home, Kind, Recorder, Refusal, Schedule, Step};
 
 use crate::failure::Failure;
 use crate::files;
@@ -37,7 +37,7 @@ enum Sink {
 impl Sink {
     fn field(&mut self, tag: u8, payload: &[u8]) -> Result<(), String> {
         match self {
-            Sink::Checked(recorder) => recorder.field(tag, payload).map_err(|refusal| refusal.to_string()),
+            Sink::Checked(recorder) => recorder.field(tag, payload).map_err(in_words),
             Sink::Unchecked(bytes) => {
                 bytes.extend([tag, payload.len() as u8, 0]);
                 bytes.extend(payload);
@@ -47,10 +47,15 @@ impl Sink {
     }
 }
 
+fn in_words(refusal: Refusal) -> String {
+    refusal.to_string()
+}
+
 /// Assembles a text; a failure names the file and the line.
 pub fn assemble(text: &str, path: &Path) -> Result<Assembled, Failure> {
     let mut assembly = Assembly {
         sink: Sink::Checked(Box::new(Recorder::empty())),
+        edition: None,
         fields: 0,
         persistent: 0,
         locations: 0,
@@ -61,7 +66,7 @@ pub fn assemble(text: &str, path: &Path) -> Result<Assembled, Failure> {
     for (number, line) in text.lines().enumerate() {
         lines = number + 1;
         let placed = |message: String| Failure::new(format!("{}:{}: {message}", path.display(), number + 1));
-        if let Some(line) = parse(line).map_err(placed)? {
+        if let Some(line) = parse(line, assembly.edition()).map_err(placed)? {
             assembly.take(line).map_err(placed)?;
         }
     }
@@ -70,6 +75,8 @@ pub fn assemble(text: &str, path: &Path) -> Result<Assembled, Failure> {
 
 struct Assembly {
     sink: Sink,
+    /// What the last `edition` line says.
+    edition: Option<Edition>,
     fields: usize,
     /// The machines that are persistent by the last `machines` line.
     persistent: u8,
@@ -79,6 +86,10 @@ struct Assembly {
 }
 
 impl Assembly {
+    fn edition(&self) -> Edition {
+        self.edition.unwrap_or(Edition::First)
+    }
+
     fn take(&mut self, line: Line) -> Result<(), String> {
         match line {
             Line::Unchecked if self.fields == 0 => {
@@ -86,9 +97,17 @@ impl Assembly {
                 Ok(())
             }
             Line::Unchecked => Err("'unchecked' must come before all fields".into()),
+            Line::Edition(edition) => match self.sink {
+                Sink::Checked(_) if self.fields != 0 => Err("'edition' must come before the 'machines' line".into()),
+                Sink::Checked(_) if self.edition.is_some() => Err("the edition is named twice".into()),
+                _ => {
+                    self.edition = Some(edition);
+                    Ok(())
+                }
+            },
             Line::Machines { count, persistent } => {
                 self.persistent = persistent;
-                self.field(0x01, &[count, persistent])
+                self.field(self.edition().tag(), &[count, persistent])
             }
             Line::Location { number, owner, initial, kind } => {
                 if usize::from(number) != self.locations {
@@ -96,11 +115,12 @@ impl Assembly {
                 }
                 self.locations += 1;
                 let kind = kind.unwrap_or_else(|| Kind::of_machine(owner, self.persistent));
-                self.field(0x02, &Home { owner, initial, kind }.payload(self.persistent))
+                let payload = Home { owner, initial, kind }.payload(self.edition(), self.persistent);
+                self.field(0x02, &payload.map_err(in_words)?)
             }
             Line::Event(event) => {
                 self.events += 1;
-                self.field(event.operation.tag(), &event.payload())
+                self.field(event.operation.tag(), &event.payload(self.edition()).map_err(in_words)?)
             }
             Line::Silent { location, machine } => {
                 let before = u8::try_from(self.events).map_err(|_| "over 255 events before a silent step")?;
@@ -129,7 +149,7 @@ impl Assembly {
             Sink::Unchecked(bytes) => bytes,
             Sink::Checked(_) if self.fields == 0 => return Err("no 'machines' line".into()),
             Sink::Checked(recorder) if malluvom::read(recorder.bytes()).is_ok() => recorder.bytes().to_vec(),
-            Sink::Checked(recorder) => recorder.finish().map_err(|refusal| refusal.to_string())?,
+            Sink::Checked(recorder) => recorder.finish().map_err(in_words)?,
         };
         Ok(Assembled { log, schedule: self.schedule })
     }

@@ -13,6 +13,7 @@ use crate::run::{actions, place, Action, Held};
 
 const LEFT: usize = 150;
 const TOP: usize = 64;
+/// The least width of a column.
 const COLUMN: usize = 84;
 const LANE: usize = 46;
 
@@ -78,24 +79,34 @@ struct Picture<'a> {
     log: &'a Log,
     location: u8,
     bad: Option<Event>,
+    /// The width of a column.
+    column: usize,
     svg: String,
+}
+
+/// How wide a value is at the end of its bar.
+fn width(value: u32) -> usize {
+    8 + 7 * value.to_string().len()
 }
 
 impl<'a> Picture<'a> {
     fn new(log: &'a Log, location: u8, bad: Option<Event>) -> Picture<'a> {
-        Picture { log, location, bad, svg: String::new() }
+        Picture { log, location, bad, column: COLUMN, svg: String::new() }
     }
 
     fn draw(mut self, schedule: &Schedule) -> String {
         let mut shown = actions(self.log, schedule);
         shown.retain(|action| action.concerns(self.location));
         let columns = shown.len() + usize::from(self.bad.is_some());
-        self.frame(columns);
         let mut states = vec![Held::at_power_on(self.log, self.location)];
         for action in &shown {
             let last = states[states.len() - 1];
             states.push(last.after(self.log, self.location, action));
         }
+        // A bar has half a column or more, and its value must stand in it.
+        let values = states.iter().flat_map(|held| [held.copy, held.memory]);
+        self.column = values.map(|value| 2 * width(value)).fold(COLUMN, usize::max);
+        self.frame(columns);
         for machine in 1..=self.log.machines {
             let values = states.iter().map(|held| held.by(machine).then_some(held.copy));
             self.bars(self.lane(machine), "cache", &values.collect::<Vec<_>>(), columns);
@@ -122,7 +133,7 @@ impl<'a> Picture<'a> {
     }
 
     fn frame(&mut self, columns: usize) {
-        let width = LEFT + COLUMN * columns.max(3) + 40;
+        let width = LEFT + self.column * columns.max(3) + 40;
         let height = self.memory() + LANE;
         let owner = self.log.owner(self.location);
         let place = place(self.log, self.location);
@@ -155,28 +166,28 @@ impl<'a> Picture<'a> {
     }
 
     /// The middle of a column; column c stands between the states c and c + 1.
-    fn middle(column: usize) -> usize {
-        LEFT + COLUMN * column + COLUMN / 2
+    fn middle(&self, column: usize) -> usize {
+        LEFT + self.column * column + self.column / 2
     }
 
     /// A bar over each stretch of states in which the lane holds one value.
-    fn bars(&mut self, y: usize, class: &str, values: &[Option<u16>], columns: usize) {
-        let end = LEFT + COLUMN * columns.max(1) + 10;
+    fn bars(&mut self, y: usize, class: &str, values: &[Option<u32>], columns: usize) {
+        let end = LEFT + self.column * columns.max(1) + 10;
         let mut from = 0;
         for state in 1..=values.len() {
             if state < values.len() && values[state] == values[from] {
                 continue;
             }
             if let Some(value) = values[from] {
-                let left = if from == 0 { LEFT } else { Self::middle(from - 1) };
-                let right = if state == values.len() { end } else { Self::middle(state - 1) };
+                let left = if from == 0 { LEFT } else { self.middle(from - 1) };
+                let right = if state == values.len() { end } else { self.middle(state - 1) };
                 let _ = writeln!(
                     self.svg,
                     "<rect class=\"{class}\" x=\"{left}\" y=\"{}\" width=\"{}\" height=\"16\" rx=\"4\"/>\
                      <text class=\"value\" x=\"{}\" y=\"{}\">{value}</text>",
                     y - 8,
                     right - left,
-                    right - 8 - 7 * value.to_string().len(),
+                    right - width(value),
                     y + 4
                 );
             }
@@ -193,7 +204,7 @@ impl<'a> Picture<'a> {
                     0 => (owner, self.memory(), "write-back"),
                     machine => (self.lane(machine), owner, "propagate"),
                 };
-                let x = Self::middle(column);
+                let x = self.middle(column);
                 let tip = if to > from { to - 14 } else { to + 14 };
                 let back = if to > from { tip - 7 } else { tip + 7 };
                 let _ = writeln!(
@@ -210,7 +221,7 @@ impl<'a> Picture<'a> {
 
     /// An event; without a number it is the impossible one.
     fn event(&mut self, column: usize, number: Option<usize>, event: &Event) {
-        let x = Self::middle(column);
+        let x = self.middle(column);
         let label = match event.operation {
             crash if crash.is_crash() => crash.to_string(),
             flush @ (Operation::LFlush | Operation::RFlush) => flush.to_string(),

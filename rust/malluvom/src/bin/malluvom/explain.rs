@@ -127,7 +127,7 @@ fn impossible(log: &Log, number: usize, judge: &mut Judge) -> Result<String, Fai
         text.push_str("No choice of silent steps lets it happen.\n");
         return Ok(text);
     }
-    let values: Vec<String> = loadable(log, before, &event, judge)?.iter().map(u16::to_string).collect();
+    let values: Vec<String> = loadable(log, before, &event, judge)?.iter().map(u32::to_string).collect();
     let Event { machine, location, value, .. } = event;
     text.push_str(&match before.len() {
         0 => "It comes first, and".to_string(),
@@ -145,7 +145,7 @@ fn impossible(log: &Log, number: usize, judge: &mut Judge) -> Result<String, Fai
 }
 
 /// The values that events store to a location.
-fn stored(events: &[Event], location: u8) -> impl Iterator<Item = u16> + '_ {
+fn stored(events: &[Event], location: u8) -> impl Iterator<Item = u32> + '_ {
     events.iter().filter(move |event| event.location == location).filter_map(Event::stored)
 }
 
@@ -156,8 +156,8 @@ fn is_allowed(log: &Log, events: &[Event], judge: &mut Judge) -> Result<bool, Fa
 
 /// The values that the load, or that of a read-modify-write, could have returned after these events, each found by
 /// judging. No other value can be there than the initial one and what was stored.
-fn loadable(log: &Log, before: &[Event], load: &Event, judge: &mut Judge) -> Result<Vec<u16>, Failure> {
-    let mut candidates: BTreeSet<u16> = stored(before, load.location).collect();
+fn loadable(log: &Log, before: &[Event], load: &Event, judge: &mut Judge) -> Result<Vec<u32>, Failure> {
+    let mut candidates: BTreeSet<u32> = stored(before, load.location).collect();
     candidates.insert(log.initial(load.location));
     let mut values = Vec::new();
     for value in candidates {

@@ -5,11 +5,11 @@ use std::fs::File;
 use std::io::{self, Read, Write};
 use std::path::Path;
 
-use malluvom::{log, read, Log, Refusal};
+use malluvom::{convert, log, read, Log, Refusal};
 
 use crate::failure::Failure;
 
-/// No answer of the library depends on more bytes of a log or of a verdict file: 1,512 and 1,544 are the most that are
+/// No answer of the library depends on more bytes of a log or of a verdict file: 2,088 and 1,544 are the most that are
 /// accepted, and what stands after them only makes the refusal sure.
 const BYTES_MOST: u64 = 65_536;
 
@@ -52,21 +52,26 @@ pub fn read_log(path: &Path) -> Result<(Log, Vec<u8>), Failure> {
 
 /// A refused log, with the field that is refused.
 pub fn refused(path: &Path, bytes: &[u8], refusal: Refusal) -> Failure {
-    let (number, at) = refused_field(bytes);
+    let (number, at) = refused_field(bytes, refusal);
     Failure::new(format!("{}: field {number}, at byte {at}: {refusal}", path.display()))
 }
 
 /// The field that a refused log is refused for, counted from 1, and its position. Bytes that stop after a whole field
-/// are refused with 2 for the end that they lack, so the first field whose end brings another answer is the one.
-fn refused_field(bytes: &[u8]) -> (usize, usize) {
+/// are refused with 2 for the end that they lack, so the first field whose end brings another answer is the one. That a
+/// value is too large is said of accepted logs alone, so there an end is put after each field.
+fn refused_field(bytes: &[u8], refusal: Refusal) -> (usize, usize) {
+    let passes = |fields: &[u8]| match refusal {
+        Refusal::ValueTooLarge => convert(&[fields, &[0x04, 0, 0]].concat()).is_ok(),
+        _ => matches!(read(fields), Err(Refusal::Truncated) | Ok(_)),
+    };
     let mut next = (1, 0);
     for (count, (at, _, payload)) in log::fields(bytes).enumerate() {
         let end = at + 3 + payload.len();
         next = (count + 1, at);
-        match read(&bytes[..end]) {
-            Err(Refusal::Truncated) | Ok(_) => next = (count + 2, end),
-            Err(_) => break,
+        if !passes(&bytes[..end]) {
+            break;
         }
+        next = (count + 2, end);
     }
     next
 }

@@ -1,6 +1,7 @@
 //! The command line tool. Every verdict, refusal and replay comes from the proved library.
 
 mod asm;
+mod convert;
 mod draw;
 mod explain;
 mod failure;
@@ -24,6 +25,8 @@ malluvom: a proved judge of CXL0 logs
         the log's bytes of a text; --schedule also writes its silent steps as a verdict file
   malluvom show LOG [VERDICT]
         a log as text, one event per line, with the silent steps of a verdict file
+  malluvom convert LOG [-o LOG]
+        the same log in the other edition: values of 4 bytes in place of 2, or of 2 in place of 4
   malluvom judge [--json] [--write] PATH...
         one line for each file, and for each .log file of each folder: allowed and the number of silent steps,
         impossible and the event, or number and the refusal; --write puts a verdict file beside each log
@@ -58,6 +61,7 @@ fn run(words: &[std::ffi::OsString]) -> Result<u8, Failure> {
     match command.to_string_lossy().as_ref() {
         "asm" => asm::command(rest),
         "show" => show::command(rest),
+        "convert" => convert::command(rest),
         "judge" => judge::command(rest),
         "replay" => replay::command(rest),
         "explain" => explain::command(rest),

@@ -41,8 +41,8 @@ pub fn actions(log: &Log, schedule: &Schedule) -> Vec<Action> {
 pub struct Held {
     /// Bit i - 1 is set if machine i's cache holds a copy.
     pub sharers: u8,
-    pub copy: u16,
-    pub memory: u16,
+    pub copy: u32,
+    pub memory: u32,
 }
 
 impl Held {

@@ -4,7 +4,7 @@ use std::ffi::OsString;
 use std::fmt::Write;
 use std::path::Path;
 
-use malluvom::{replay, Log, Refusal, Replayed, Schedule, Step};
+use malluvom::{replay, Edition, Log, Refusal, Replayed, Schedule, Step};
 
 use crate::failure::Failure;
 use crate::files;
@@ -72,7 +72,11 @@ pub fn text(log: &Log, notes: &Notes) -> String {
 
 /// The lines before the events.
 fn head(log: &Log) -> String {
-    let mut head = format!("machines {} persistent", log.machines);
+    let mut head = match log.edition {
+        Edition::First => String::new(),
+        later => format!("edition {later}\n"),
+    };
+    let _ = write!(head, "machines {} persistent", log.machines);
     let all = (1..=log.machines).all(|machine| log.is_persistent(machine));
     match log.persistent {
         0 => head.push_str(" none"),

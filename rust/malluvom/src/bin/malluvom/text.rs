@@ -1,20 +1,21 @@
 //! The lines of the text form, which docs/TEXT-FORM.md describes.
 
-use malluvom::{Event, Kind, MachineSet, Operation};
+use malluvom::{Edition, Event, Kind, MachineSet, Operation};
 
 /// One line of a text.
 pub enum Line {
     Unchecked,
+    Edition(Edition),
     Machines { count: u8, persistent: u8 },
-    Location { number: u8, owner: u8, initial: u16, kind: Option<Kind> },
+    Location { number: u8, owner: u8, initial: u32, kind: Option<Kind> },
     Event(Event),
     Silent { location: u8, machine: u8 },
     Bytes(Vec<u8>),
     End,
 }
 
-/// One line, or nothing if it is empty or only a comment.
-pub fn parse(line: &str) -> Result<Option<Line>, String> {
+/// One line of a text in this edition, or nothing if it is empty or only a comment.
+pub fn parse(line: &str, edition: Edition) -> Result<Option<Line>, String> {
     let line = line.split('#').next().unwrap_or("");
     // Words that only help reading.
     let noise = ["by", "to", "of", "from", "~"];
@@ -27,6 +28,10 @@ pub fn parse(line: &str) -> Result<Option<Line>, String> {
     };
     let known = match first.to_ascii_lowercase().as_str() {
         "unchecked" => none(rest, Line::Unchecked)?,
+        "edition" => match rest {
+            [word] => Line::Edition(named_edition(word)?),
+            _ => return Err("the edition is 'edition 1' or 'edition 2'".into()),
+        },
         "machines" => machines(rest)?,
         "propagate" => match rest {
             [machine, location] => Line::Silent { machine: number(machine)?, location: location_number(location)? },
@@ -39,9 +44,9 @@ pub fn parse(line: &str) -> Result<Option<Line>, String> {
         "bytes" => Line::Bytes(rest.iter().map(|word| hex(word)).collect::<Result<_, _>>()?),
         "end" => none(rest, Line::End)?,
         name => match Operation::ALL.iter().find(|operation| operation.to_string().eq_ignore_ascii_case(name)) {
-            Some(&operation) => Line::Event(event(operation, rest)?),
+            Some(&operation) => Line::Event(event(operation, rest, edition)?),
             None => match location_number(first) {
-                Ok(number) => location(number, rest)?,
+                Ok(number) => location(number, rest, edition)?,
                 Err(_) => return Err(format!("'{first}' begins no line of the text form")),
             },
         },
@@ -54,6 +59,10 @@ fn none(rest: &[&str], line: Line) -> Result<Line, String> {
         None => Ok(line),
         Some(word) => Err(format!("'{word}' is too much")),
     }
+}
+
+fn named_edition(word: &str) -> Result<Edition, String> {
+    Edition::from_number(number(word)?).ok_or_else(|| format!("there is no edition {word}, only 1 and 2"))
 }
 
 fn machines(rest: &[&str]) -> Result<Line, String> {
@@ -77,7 +86,7 @@ fn machines(rest: &[&str]) -> Result<Line, String> {
 }
 
 /// A location. If its kind is left out, it is that of the owner, which another line says.
-fn location(location: u8, rest: &[&str]) -> Result<Line, String> {
+fn location(location: u8, rest: &[&str], edition: Edition) -> Result<Line, String> {
     let (rest, kind) = match rest {
         [rest @ .., "volatile"] => (rest, Some(Kind::Volatile)),
         [rest @ .., "persistent"] => (rest, Some(Kind::Persistent)),
@@ -85,13 +94,13 @@ fn location(location: u8, rest: &[&str]) -> Result<Line, String> {
     };
     let (owner, initial) = match rest {
         [owner] => (number(owner)?, 0),
-        [owner, "initially", initial] => (number(owner)?, number(initial)?),
+        [owner, "initially", initial] => (number(owner)?, value(initial, edition)?),
         _ => return Err("a location is 'L0 of 2', 'L0 of 2 initially 7', or either with its kind at the end".into()),
     };
     Ok(Line::Location { number: location, owner, initial, kind })
 }
 
-fn event(operation: Operation, rest: &[&str]) -> Result<Event, String> {
+fn event(operation: Operation, rest: &[&str], edition: Edition) -> Result<Event, String> {
     let mut event = Event { operation, machine: 0, location: 0, value: 0, written: 0, machines: MachineSet::EMPTY };
     match (operation, rest) {
         (Operation::Crash, [machine]) => event.machine = number(machine)?,
@@ -101,13 +110,13 @@ fn event(operation: Operation, rest: &[&str]) -> Result<Event, String> {
         (Operation::LFlush | Operation::RFlush, [machine, location]) => {
             (event.machine, event.location) = (number(machine)?, location_number(location)?);
         }
-        (Operation::LStore | Operation::RStore | Operation::MStore | Operation::Load, [machine, location, value]) => {
+        (Operation::LStore | Operation::RStore | Operation::MStore | Operation::Load, [machine, location, word]) => {
             (event.machine, event.location) = (number(machine)?, location_number(location)?);
-            event.value = number(value)?;
+            event.value = value(word, edition)?;
         }
-        (Operation::LRmw | Operation::RRmw | Operation::MRmw, [machine, location, value, written]) => {
+        (Operation::LRmw | Operation::RRmw | Operation::MRmw, [machine, location, read, written]) => {
             (event.machine, event.location) = (number(machine)?, location_number(location)?);
-            (event.value, event.written) = (number(value)?, number(written)?);
+            (event.value, event.written) = (value(read, edition)?, value(written, edition)?);
         }
         _ => {
             let example = Event { machine: 1, value: 1, written: 2, ..event };
@@ -138,6 +147,15 @@ fn number<T: TryFrom<u32>>(word: &str) -> Result<T, String> {
     };
     let fits = parsed.and_then(|parsed| T::try_from(parsed).ok());
     fits.ok_or_else(|| format!("'{word}' is no number that fits here"))
+}
+
+/// A value that has bytes in the edition.
+fn value(word: &str, edition: Edition) -> Result<u32, String> {
+    let most = edition.value_most();
+    match number(word)? {
+        value if value <= most => Ok(value),
+        _ => Err(format!("'{word}' is no number that fits here: values of edition {edition} go to {most}")),
+    }
 }
 
 fn location_number(word: &str) -> Result<u8, String> {
