@@ -16,9 +16,9 @@ use replay::replay;
 ghost use mathlib.Core.Path.{_≡_};
 ghost use Rattle.log.specs.Reading.{readLog};
 ghost use Rattle.reader.specs.Answers.{summaryOf};
-ghost use Rattle.recorder.specs.Recording as recording;
-ghost use Rattle.recorder.specs.Recording.{recorded};
-ghost use Rattle.converter.specs.Converting.{conversion, told, written};
+ghost use Rattle.recorder.specs.Recording.{recorded, written};
+ghost use Rattle.converter.specs.Converting as converting;
+ghost use Rattle.converter.specs.Converting.{conversion, told};
 ghost use Rattle.replay.specs.Replaying.{replayLog};
 ghost use Rattle.capi.specs.Packing.{packRecorded, packSummary, packConverted, packReplayed, JudgesPacked};
 
@@ -26,7 +26,7 @@ ghost use Rattle.capi.specs.Packing.{packRecorded, packSummary, packConv
 #[no_mangle]
 pub extern "C" fn cxl0_record(buf: &mut [u8], used: usize, tag: u8, payload: &[u8]) -> u64
     ensures { λ r. ⌜ r ≡ packRecorded (recorded (now (buf .entry)) used tag (now (payload .entry))) ⌝ }
-    ensures { λ r. ⌜ now (buf .exit) ≡ recording.written (recorded (now (buf .entry)) used tag (now (payload .entry)))
+    ensures { λ r. ⌜ now (buf .exit) ≡ written (recorded (now (buf .entry)) used tag (now (payload .entry)))
         (now (buf .entry)) used tag (now (payload .entry)) ⌝ }
 {
     pack_recorded(record(buf, used, tag, payload))
@@ -45,7 +45,8 @@ pub extern "C" fn cxl0_read(log: &[u8]) -> u64
 #[no_mangle]
 pub extern "C" fn cxl0_convert(log: &[u8], out: &mut [u8]) -> u64
     ensures { λ r. ⌜ r ≡ packConverted (told (conversion (now (log .entry)) (now (out .entry)))) ⌝ }
-    ensures { λ r. ⌜ now (out .exit) ≡ written (conversion (now (log .entry)) (now (out .entry))) (now (out .entry)) ⌝ }
+    ensures { λ r. ⌜ now (out .exit) ≡ converting.written (conversion (now (log .entry)) (now (out .entry)))
+        (now (out .entry)) ⌝ }
 {
     pack_converted(convert(log, out))
 }
