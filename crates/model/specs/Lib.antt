@@ -1,8 +1,10 @@
 pub mod Cxl0
 pub mod Schedule
+pub mod Shortest
 pub mod Operations
 pub mod Sharers
 pub mod OneLocation
+pub mod ShortestAt
 pub mod Goes
 pub mod Earlier
 pub mod Sums
