@@ -31,6 +31,7 @@ pub mod Operations
 pub mod MarkedLogs
 pub mod Weaving
 pub mod Steps
+pub mod ShortestParts
 pub mod Bits
 pub mod Limits
 pub mod Theorems

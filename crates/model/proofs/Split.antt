@@ -126,7 +126,7 @@ runsAt-own sys x (silent a ∷ acts) s =
     (λ t. skip sys x a acts s t ∙ runsAt-own sys x acts s)
 
 -- Such a list keeps the events, and its silent steps are x's.
-events-own : (x : Location) (acts : List Action) → events (ownOf x acts) ≡ events acts
+pub events-own : (x : Location) (acts : List Action) → events (ownOf x acts) ≡ events acts
 unfolding events ownOf
 events-own x [] = refl
 events-own x (event e ∷ acts) = ap (_∷_ e) (events-own x acts)
@@ -135,7 +135,7 @@ events-own x (silent a ∷ acts) =
     (λ t. events-own x acts)
     (λ t. events-own x acts)
 
-own-own : (x : Location) (acts : List Action) → T (ownSteps x (ownOf x acts))
+pub own-own : (x : Location) (acts : List Action) → T (ownSteps x (ownOf x acts))
 unfolding ownSteps ownOf
 own-own x [] = tt
 own-own x (event e ∷ acts) = own-own x acts

@@ -1,9 +1,9 @@
 -- How sums over the numbers below n change with their terms.
 use Prim.Native.Nat.{ℕ, zero, suc, _+_, _≤_, _<_}
-use native.Mathlib.Nat.{not-suc-le-zero}
+use native.Mathlib.Nat.{eq-or-lt-of-le, le-of-suc-le-suc, not-suc-le-zero}
 use native.Mathlib.Omega.{arith}
 use mathlib.Core.Path.{_≡_, refl, subst}
-use mathlib.Core.Logic.{_≢_}
+use mathlib.Core.Logic.{_≢_, ⊎-elim}
 use lib.Dec.{eqb, eqb→eq}
 use Rattle.model.specs.Sums.{sum}
 use Rattle.model.proofs.Tests.{by-test, ne-test}
@@ -33,3 +33,16 @@ sum-at (suc n) i f g a b h le at =
     (λ t.
     let below : i < n = omega (arith, ne-test i n t) in
     omega (arith, sum-at n i f g a b below le at, le n (omega arith)))
+
+-- Terms that are nowhere greater and have no smaller sum are the same.
+pub sum-each : (n : ℕ) (f g : ℕ → ℕ) → ((j : ℕ) → j < n → f j ≤ g j) → sum n g ≤ sum n f
+    → (j : ℕ) → j < n → f j ≡ g j
+unfolding sum
+sum-each zero f g le s j h = absurd (not-suc-le-zero h)
+sum-each (suc n) f g le s j h =
+    let below = sum-le n f g (λ i k. le i (omega arith)) in
+    let last = le n (omega arith) in
+    ⊎-elim
+    (λ e. rw e (omega arith))
+    (sum-each n f g (λ i k. le i (omega arith)) (omega arith) j)
+    (eq-or-lt-of-le (le-of-suc-le-suc h))
