@@ -23,12 +23,12 @@ module _ (sys : Topology) (x : Location) where
       × HasRunAt sys x es (nextAt sys x (event e) t)
 
   -- A silent step of x is possible where it is enabled, and has its effect.
-  own-possible : (a : Silent) (s : Local) → T (silentAt x a)
+  pub own-possible : (a : Silent) (s : Local) → T (silentAt x a)
       → possibleAt sys x (silent a) s ≡ enabledAt (siteOf sys x) (silent a) s
   unfolding possibleAt concerns
   own-possible a s t = rw (T→true {b = silentAt x a} t)
 
-  own-next : (a : Silent) (s : Local) → T (silentAt x a)
+  pub own-next : (a : Silent) (s : Local) → T (silentAt x a)
       → nextAt sys x (silent a) s ≡ effect (siteOf sys x) (silent a) s
   unfolding nextAt concerns
   own-next a s t = rw (T→true {b = silentAt x a} t)

@@ -31,6 +31,9 @@ pub mod Operations
 pub mod MarkedLogs
 pub mod Weaving
 pub mod Steps
+pub mod RunsOf
+pub mod Smallest
+pub mod Greedy
 pub mod ShortestParts
 pub mod Bits
 pub mod Limits

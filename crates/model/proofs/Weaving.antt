@@ -23,7 +23,7 @@ unfolding events steps
 events-steps [] acts = refl
 events-steps (p ∷ ps) acts = events-steps ps acts
 
-events-weaveFrom : (n : ℕ) (es : List Event) (ps : List Step) → events (weaveFrom n es ps) ≡ es
+pub events-weaveFrom : (n : ℕ) (es : List Event) (ps : List Step) → events (weaveFrom n es ps) ≡ es
 unfolding events weaveFrom
 events-weaveFrom n [] ps = rw (← append-nil (steps ps)) (events-steps ps [])
 events-weaveFrom n (e ∷ es) ps = events-steps (due n ps) _ ∙ rw (events-weaveFrom (suc n) es (later n ps))
@@ -47,7 +47,7 @@ due-later n (p ∷ ps) =
     elim (leb (p .before) n) as (λ b. cond b (p ∷ due n ps) [] ++ cond b (later n ps) (p ∷ ps) ≡ p ∷ ps)
     [ true ↦ rw (due-later n ps) | false ↦ refl ]
 
-silents-weaveFrom : (n : ℕ) (es : List Event) (ps : List Step) → silents (weaveFrom n es ps) ≡ map silentOf ps
+pub silents-weaveFrom : (n : ℕ) (es : List Event) (ps : List Step) → silents (weaveFrom n es ps) ≡ map silentOf ps
 unfolding silents weaveFrom
 silents-weaveFrom n [] ps = rw (← append-nil (steps ps)) (silents-steps ps [] ∙ append-nil _)
 silents-weaveFrom n (e ∷ es) ps =
@@ -73,12 +73,12 @@ inOrder-cons m n p ps =
       λ o. and-i (low && high) rest (and-i low high (le→leb _ _ (o .0)) (le→leb _ _ (o .1))) (o .2),
     )
 
-before-stepOf : (n : ℕ) (a : Silent) → stepOf n a .before ≡ n
+pub before-stepOf : (n : ℕ) (a : Silent) → stepOf n a .before ≡ n
 unfolding stepOf
 before-stepOf n (Propagate i x) = refl
 before-stepOf n (WriteBack x) = refl
 
-scheduleFrom-inOrder : (l n m : ℕ) (acts : List Action) → l ≤ n → n + length (events acts) ≤ m
+pub scheduleFrom-inOrder : (l n m : ℕ) (acts : List Action) → l ≤ n → n + length (events acts) ≤ m
     → T (inOrder l m (scheduleFrom n acts))
 unfolding scheduleFrom events
 scheduleFrom-inOrder l n m [] g h = unfold inOrder in tt
@@ -133,7 +133,7 @@ back-due n m es back (p ∷ ps) t =
     (λ h. back (p ∷ ps) (inOrder-cons (suc n) m p ps .1 (h, o .1, o .2)))
     (eq-or-lt-of-le (o .0))
 
-scheduleFrom-weaveFrom : (n m : ℕ) (es : List Event) (ps : List Step) → m ≤ n + length es → T (inOrder n m ps)
+pub scheduleFrom-weaveFrom : (n m : ℕ) (es : List Event) (ps : List Step) → m ≤ n + length es → T (inOrder n m ps)
     → scheduleFrom n (weaveFrom n es ps) ≡ ps
 unfolding scheduleFrom
 scheduleFrom-weaveFrom n m [] ps h t = back-due n m [] back ps t

@@ -5,6 +5,7 @@ pub mod Operations
 pub mod Sharers
 pub mod OneLocation
 pub mod ShortestAt
+pub mod Paying
 pub mod Goes
 pub mod Earlier
 pub mod Sums
