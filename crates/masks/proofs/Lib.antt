@@ -4,3 +4,4 @@ pub mod Codes
 pub mod Shifts
 pub mod OnePass
 pub mod Losses
+pub mod OneMove

@@ -38,7 +38,7 @@ module _ (k : Machine) (o : OneToSix k) where
   module _ (i : Machine) (r near more : ℕ) (n : Exactly near (λ t. In (insert k t) r))
       (v : Exactly more (λ t. T (has i t) × In (remove i t) near)) where
     -- These are the codes with i that i's move takes into r.
-    more-moved : Exactly more (λ t. T (has i t) × In (moved k i t) r)
+    pub more-moved : Exactly more (λ t. T (has i t) × In (moved k i t) r)
     unfolding moved
     more-moved t h = Iff·trans (v t h) (Iff·and Iff·rfl (n (remove i t) (lt-of-le-of-lt (remove-le i t) h)))
 

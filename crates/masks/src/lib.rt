@@ -6,11 +6,12 @@
 // to 6, a code is below 64, and `lowest` is given a mask that is not 0.
 use model::Machine;
 ghost use mathlib.Core.Path.{_≡_};
-ghost use mathlib.Core.Bool.{true, cond, not};
+ghost use mathlib.Core.Bool.{true, cond, not, _&&_};
 ghost use mathlib.Core.Logic.{_↔_, _≢_};
-ghost use lib.Dec.{T};
+ghost use lib.Dec.{T, eqb};
 ghost use Prim.Native.Nat.{ℕ, _<_};
 ghost use Rattle.model.specs.Sharers.{has, insert, remove, removeAll};
+ghost use Rattle.model.specs.OneLocation.{moved};
 ghost use Rattle.masks.specs.Sets.{In, everyCode, Exactly, Least, Leads, OneToSix};
 
 // Code c is in the set.
@@ -152,6 +153,25 @@ pub fn gaining(m: u64, i: Machine) -> u64
     let with = having(m, i);
     let without = with >> alone(i);
     with | without
+}
+
+// The codes from which one move to the owner k reaches the set.
+pub fn one_move(m: u64, k: Machine) -> u64
+    requires { ⌜ OneToSix (k .0) ⌝ }
+    ensures { λ r. ⌜ Exactly r (λ t. (i : ℕ) × T (not (eqb i (k .0)) && has i t) × In (moved (k .0) i t) m) ⌝ }
+{
+    // No move leads to code 0.
+    if m <= 1 {
+        return 0;
+    }
+    let near = gaining(m, k);
+    let mut r: u64 = 0;
+    for n in 1..7u8 {
+        if n != k.0 {
+            r = r | giving_up(near, Machine(n));
+        }
+    }
+    r
 }
 
 // The codes from which moves to the owner k reach the set. Moves of different machines commute, so that one

@@ -45,9 +45,21 @@ BUCKETS-END = BUCKETS + (MOST + 1)
 abbrev pub WAYPOINTS : ℕ
 WAYPOINTS = SORTED + 6 * MOST
 
+-- The levels of a segment, a mask for each gap.
+abbrev pub LEVELS : ℕ
+LEVELS = WAYPOINTS + MOST
+
+-- What is left to pay after a write-back, one word for each gap.
+abbrev pub BACKS : ℕ
+BACKS = LEVELS + (MOST + 1)
+
+-- The segments of a block, two words each.
+abbrev pub SEGMENTS : ℕ
+SEGMENTS = BACKS + (MOST + 1)
+
 -- The events of the log, two words each.
 abbrev pub LOG : ℕ
-LOG = WAYPOINTS + MOST
+LOG = SEGMENTS + 2 * (MOST + 1)
 
 -- For each of 32 locations the first event of the log there. What follows is free.
 abbrev pub HEADS : ℕ

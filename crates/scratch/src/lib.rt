@@ -38,8 +38,15 @@ pub const BUCKETS: usize = SORTED + MOST_STEPS;
 // Where the walk stood before each event.
 pub const WAYPOINTS: usize = SORTED + 6 * MOST;
 
+// For each gap the level of a segment and what is left to pay after a write-back, and the segments of a block.
+pub const LEVELS: usize = WAYPOINTS + MOST;
+
+pub const BACKS: usize = LEVELS + (MOST + 1);
+
+pub const SEGMENTS: usize = BACKS + (MOST + 1);
+
 // The events of the log, and the first event of each location.
-pub const LOG: usize = WAYPOINTS + MOST;
+pub const LOG: usize = SEGMENTS + 2 * (MOST + 1);
 
 pub const HEADS: usize = LOG + 2 * MOST;
 
