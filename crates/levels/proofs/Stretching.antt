@@ -115,44 +115,44 @@ inner-possible k (Crash i) c u m n inner reads t = t
 inner-possible k (SetCrash set) c u m n inner reads t = t
 inner-possible k (RMW form i x w z) c u m n inner reads t = absurd inner
 
--- The stretch q′ has the events of q, accepts what q accepts, has no more to pay behind its last gap or behind a
--- write-back, and its memory has the value of the copies at each gap where that of q has.
-pub record Easier (q q′ : Stretch) : Type 0 where
+-- From gap `from` on, the stretch q′ has the events of q, and its memory has the value of the copies at each gap where
+-- that of q has; it accepts what q accepts, and has no more to pay behind its last gap or behind a write-back.
+pub record Easier (from : ℕ) (q q′ : Stretch) : Type 0 where
   pub site : q′ .site ≡ q .site
   pub copy : q′ .copy ≡ q .copy
   pub end : q′ .end ≡ q .end
-  pub events : (t : ℕ) → t < q .end → q′ .event t ≡ q .event t
-  pub inner : (t : ℕ) → t < q .end → Inner (q .copy) (q .event t)
-  pub reads : (t : ℕ) → q .memory t ≡ q .copy → q′ .memory t ≡ q′ .copy
+  pub events : (t : ℕ) → from ≤ t → t < q .end → q′ .event t ≡ q .event t
+  pub inner : (t : ℕ) → from ≤ t → t < q .end → Inner (q .copy) (q .event t)
+  pub reads : (t : ℕ) → from ≤ t → t < q .end → q .memory t ≡ q .copy → q′ .memory t ≡ q′ .copy
   pub accepts : (c : ℕ) → T (q .accepts c) → T (q′ .accepts c)
   pub last : q′ .last ≤ q .last
-  pub back : (t : ℕ) → q′ .back t ≤ q .back t
+  pub back : (t : ℕ) → from ≤ t → t ≤ q .end → q′ .back t ≤ q .back t
 
 -- Then q′ finishes wherever q does.
-module _ (q q′ : Stretch) (s : Easier q q′) where
+module _ (from : ℕ) (q q′ : Stretch) (s : Easier from q q′) where
   -- An event is possible in q′ wherever it is in q, and leaves the same code.
-  possible-too : (t c : ℕ) → t < q .end → T (enabledAt (q .site) (event (q .event t)) (stateAt q t c))
+  possible-too : (t c : ℕ) → from ≤ t → t < q .end → T (enabledAt (q .site) (event (q .event t)) (stateAt q t c))
       → T (enabledAt (q′ .site) (event (q′ .event t)) (stateAt q′ t c))
-  possible-too t c b e =
+  possible-too t c a b e =
       let m = q′ .memory t in
-      let reads : q .memory t ≡ q .copy → m ≡ q .copy = λ r. s .reads t r ∙ s .copy in
-      rw (s .site, s .events t b, s .copy)
-      (inner-possible (q .site) (q .event t) c (q .copy) (q .memory t) m (s .inner t b) reads e)
+      let reads : q .memory t ≡ q .copy → m ≡ q .copy = λ r. s .reads t a b r ∙ s .copy in
+      rw (s .site, s .events t a b, s .copy)
+      (inner-possible (q .site) (q .event t) c (q .copy) (q .memory t) m (s .inner t a b) reads e)
 
-  same-code : (t c : ℕ) → t < q .end
+  same-code : (t c : ℕ) → from ≤ t → t < q .end
       → effect (q .site) (event (q .event t)) (stateAt q t c) .code
       ≡ effect (q′ .site) (event (q′ .event t)) (stateAt q′ t c) .code
-  same-code t c b =
-      rw (s .site, s .events t b)
+  same-code t c a b =
+      rw (s .site, s .events t a b)
       (code-after (q .site) (q .event t) c (q .copy) (q .memory t) (q′ .copy) (q′ .memory t))
 
-  pub monotone : {t c l : ℕ} → Finishes q t c l → Finishes q′ t c l
-  monotone {c} (ends e v h) = ends (e ∙ sym (s .end)) (s .accepts c v) (le-trans (s .last) h)
-  monotone {t} {c} {l} (acts b e f) =
-      acts (subst (λ (n : ℕ). t < n) (sym (s .end)) b) (possible-too t c b e)
-      (subst (λ (d : ℕ). Finishes q′ (suc t) d l) (same-code t c b) (monotone f))
-  monotone {t} {c} (writes h b) =
-      writes (subst (λ (k : Site). T (has (k .owner) c)) (sym (s .site)) h) (lt-of-le-of-lt (s .back t) b)
-  monotone {t} {c} (moves {l} i v f) =
+  pub monotone : {t c l : ℕ} → from ≤ t → t ≤ q .end → Finishes q t c l → Finishes q′ t c l
+  monotone {c} a b (ends e v h) = ends (e ∙ sym (s .end)) (s .accepts c v) (le-trans (s .last) h)
+  monotone {t} {c} {l} a b (acts d e f) =
+      acts (subst (λ (n : ℕ). t < n) (sym (s .end)) d) (possible-too t c a d e)
+      (subst (λ (d : ℕ). Finishes q′ (suc t) d l) (same-code t c a d) (monotone (omega arith) d f))
+  monotone {t} {c} a b (writes h d) =
+      writes (subst (λ (k : Site). T (has (k .owner) c)) (sym (s .site)) h) (lt-of-le-of-lt (s .back t a b) d)
+  monotone {t} {c} a b (moves {l} i v f) =
       moves i (subst (λ (k : Site). T (not (eqb i (k .owner)) && has i c)) (sym (s .site)) v)
-      (subst (λ (k : Site). Finishes q′ t (moved (k .owner) i c) l) (sym (s .site)) (monotone f))
+      (subst (λ (k : Site). Finishes q′ t (moved (k .owner) i c) l) (sym (s .site)) (monotone a b f))

@@ -1,0 +1,13 @@
+pub mod Packing
+pub mod Rests
+pub mod Kept
+pub mod Paying
+pub mod Drained
+pub mod WriteBacks
+pub mod Closing
+pub mod Links
+pub mod TwoWays
+pub mod Weighings
+pub mod Tasks
+pub mod OneMore
+pub mod Weighed

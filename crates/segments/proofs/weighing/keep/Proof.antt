@@ -1,0 +1,50 @@
+-- `segments::weighing::keep` meets its contract.
+use native.Mathlib.Omega.{arith}
+use mathlib.Core.Path.{refl}
+use borrow.Author.Needs.{needs}
+use Rattle.scratch.specs.Layout.{LEVELS, BACKS}
+use Rattle.scratch.proofs.Frames.{only-none, only-wider}
+use Rattle.levels.specs.Tasks.{Ready}
+use Rattle.segments.proofs.weighing.keep.Statement.{statement}
+use Rattle.segments.proofs.weighing.keep.Tie as tie
+
+-- A reset does not keep a value.
+reset : tie.Need-returns
+reset c =
+    let a = c .before .before .before .args in
+    let w = a .w .now in
+    let before = c .if1 .taken in
+    record {
+      frame = only-none LEVELS BACKS w;
+      resets = λ h. refl;
+      counts = λ h. absurd (omega arith);
+    }
+
+-- The task is ready.
+ready : (h : tie.After-keeping)
+    → let start = h .before .before .before .before .before in
+    Ready (h .keeping .result) (start .args .s .first) (start .args .w .now)
+ready h =
+    let start = h .before .before .before .before .before in
+    rw (h .keeping .ensures) (start .pre .task (h .before .before .if1 .left))
+
+fewest-requires : tie.Need-fewest-requires
+fewest-requires c κs =
+    let start = c .before .before .before .before .before in
+    (ready c, start .pre .code, start .pre .most)
+
+counted : tie.Need-returns-2
+counted c =
+    let h = c .before .before in
+    let test = h .before .before .before in
+    let start = test .before .before .before in
+    let fewest = rw (h .before .keeping .ensures) at (h .fewest .ensures) in
+    let few = start .pre .task (test .if1 .left) .few in
+    record {
+      frame = only-wider (fewest .frame) (omega arith) (omega arith);
+      resets = λ less. absurd (omega (arith, test .if1 .left));
+      counts = λ _. fewest .counted;
+    }
+
+pub keep-spec : {M : Type 1} → statement M
+keep-spec = tie.close (tie.spec reset (λ c κs. search needs) fewest-requires (λ c. search needs) counted)

@@ -1,0 +1,4 @@
+pub mod Words
+pub mod Costs
+pub mod Segments
+pub mod Weighing
