@@ -1,6 +1,6 @@
 #!/usr/bin/env bash
 # Writes what the verdict program prints for every example: examples/*/NAME.log to NAME.out.
-# With --second the second judge's output instead, for logs that have at most one schedule; others are named and left.
+# With --second what the second judge prints instead.
 set -eu
 cd "$(dirname "$0")"
 if [ "${1-}" = --second ]; then
@@ -14,18 +14,10 @@ else
 fi
 for log in */*.log; do
     out=${log%.log}.out
-    status=0
-    "$program" <"$log" >"$out.new" || status=$?
-    case $status in
-    0) mv "$out.new" "$out" ;;
-    3)
+    if ! "$program" <"$log" >"$out.new"; then
         rm "$out.new"
-        echo "several schedules, left: $log"
-        ;;
-    *)
-        rm "$out.new"
-        echo "$program failed on $log with status $status" >&2
+        echo "$program failed on $log" >&2
         exit 1
-        ;;
-    esac
+    fi
+    mv "$out.new" "$out"
 done

@@ -402,7 +402,7 @@ def kind_logs():
                      persistent=owners))
         late = [(LSTORE, 1, 0, 5), (CRASH, 2), (RFLUSH, 3, 0), (CRASH, 2)]
         for value, outcome in ((5, "allowed, two steps" if kept else "impossible, 5"),
-                               (7, "allowed, one step" if kept else "allowed, two steps")):
+                               (7, "allowed, one step")):
             case(f"kind-late-{memory}-{value}", f"{memory} memory, a copy that may outlive a crash, flushed before the "
                  f"next, load of {value}: {outcome}", log(filled, late + [(LOAD, 3, 0, value)], persistent=owners))
         for form, letter in ((LRMW, "L"), (RRMW, "R"), (MRMW, "M")):
@@ -763,6 +763,68 @@ def areas():
     case("kind-scratch-short", "a short scratch area before a kind 0: number 1", none, scratch=4095)
 
 
+def shortest_logs(case=case):
+    """Logs with several schedules, of which the shortest is named step by step: events before, location, machine."""
+    flushed = [(LOAD, 3, 0, 5), (LFLUSH, 3, 0)]
+    case("shortest-fewest", "one step behind the load, or two behind the store: allowed, 2 0 3",
+         log([1], [(LSTORE, 2, 0, 5)] + flushed))
+    case("shortest-write-back", "a write-back behind the store, or a move behind the load: allowed, 1 0 0",
+         log([1], [(RSTORE, 2, 0, 5)] + flushed))
+    for value, steps in ((5, "1 0 0"), (0, "2 0 3")):
+        case(f"shortest-memory-{value}", f"the same, and {value} is read after all lost their power: allowed, {steps}",
+             log([1], [(RSTORE, 2, 0, 5)] + flushed + [together(1, 2, 3), (LOAD, 2, 0, value)]))
+    for value, steps in ((5, "1 0 2, 1 0 0"), (0, "1 0 2")):
+        later = [(LOAD, 1, 0, 5), (LSTORE, 2, 0, 6), together(1, 2), (LOAD, 1, 0, value)]
+        case(f"shortest-later-{value}", f"a flush that needs a move, and {value} is read much later: allowed, {steps}",
+             log([1], [(LSTORE, 2, 0, 5), (LFLUSH, 2, 0)] + later))
+    copies = [(LSTORE, 3, 0, 5), (LOAD, 2, 0, 5)]
+    case("shortest-machine", "either of two copies, and only between two crashes: allowed, 3 0 2",
+         log([1], copies + [(CRASH, 1), together(2, 3), (LOAD, 1, 0, 5)]))
+    case("shortest-both", "both copies before one flush: allowed, 1 0 3, 1 0 0", log([1], copies + [(RFLUSH, 1, 0)]))
+    case("shortest-copies", "a copy of another machine stays: allowed, no steps",
+         log([1], copies + [(CRASH, 3), (LOAD, 1, 0, 5)]))
+    other = [(LSTORE, 2, 1, 7), (LOAD, 1, 1, 7)]
+    for name, between, before in (("early", other, 1), ("crash", [(CRASH, 3)], 1), ("late", [(CRASH, 1)], 2),
+                                  ("last", other + [(CRASH, 1)] + other, 4)):
+        case(f"shortest-{name}", f"a move as early as nothing is lost by it: allowed, {before} 0 2",
+             log([1, 3], [(LSTORE, 2, 0, 5)] + between + [(LFLUSH, 2, 0), (LOAD, 3, 0, 5)]))
+    stores, loads = [(LSTORE, 2, 1, 5), (LSTORE, 2, 0, 5)], [(LOAD, 3, 0, 5), (LOAD, 3, 1, 5)]
+    case("shortest-locations", "two locations, each behind its own store: allowed, 1 1 2, 2 0 2",
+         log([1, 1], stores + [(CRASH, 2)] + loads))
+    case("shortest-together", "the same behind one crash, by location: allowed, 3 0 2, 3 1 2",
+         log([1, 1], stores + [(CRASH, 1), (CRASH, 2)] + loads))
+    case("shortest-merged", "two locations with two steps each: allowed, 1 1 2, 1 1 0, 2 0 2, 2 0 0",
+         log([1, 1], stores + [together(1, 2)] + loads))
+    case("shortest-volatile", "volatile memory, a copy lost by a crash needs no write-back: allowed, 1 0 2",
+         log([(1, 7)], [(LSTORE, 2, 0, 5), (CRASH, 1), (RFLUSH, 2, 0), (CRASH, 1), (LOAD, 3, 0, 7)], persistent=0))
+    case("shortest-rmw", "read-modify-writes, a flush after each, and the first value is read: allowed, 1 0 2, 1 0 0, "
+         "3 0 2", log([1], [(LRMW, 2, 0, 0, 5), (LFLUSH, 2, 0), (LRMW, 2, 0, 5, 6), (LFLUSH, 2, 0), together(1, 2, 3),
+                            (LOAD, 3, 0, 5)]))
+    around = [(CRASH, 3), (LOAD, 3, 0, 5), (CRASH, 1)] * 3
+    case("shortest-around", "a copy that outlives crashes by turns: allowed, no steps",
+         log([1], [(LSTORE, 2, 0, 5), (LOAD, 3, 0, 5)] + around + [(CRASH, 2), (CRASH, 3), (LOAD, 2, 0, 0)]))
+    case("shortest-around-flushed", "the same without the first copy: allowed, 1 0 2, 6 0 3, 9 0 3",
+         log([1], [(LSTORE, 2, 0, 5), (LOAD, 3, 0, 5), (LFLUSH, 2, 0)] + around + [(CRASH, 3), (LOAD, 2, 0, 0)]))
+
+
+def long_schedules():
+    """Near the limit of 128 events, with many steps or many ways to choose them."""
+    off = [together(1, 2, 3)]
+    moved = [e for value in range(1, 42) for e in ((LSTORE, 2, 0, value), (LOAD, 3, 0, value), (LFLUSH, 2, 0))]
+    for value, steps in ((0, 41), (1, 42), (20, 42), (41, 42)):
+        case(f"moved-{value}", f"41 values, each moved once, then {value} is read: allowed, {steps} steps",
+             log([1], moved + off + [(LOAD, 3, 0, value)]))
+    case("moved-42", "the same with a value from nowhere: impossible, 125", log([1], moved + off + [(LOAD, 3, 0, 42)]))
+    stores = [(LSTORE, 2, 0, value) for value in range(1, 127)]
+    for value, steps in ((1, "two steps"), (64, "two steps"), (126, "one step")):
+        case(f"overwritten-{value}", f"126 values, one over the other, then {value} is read: allowed, {steps}",
+             log([1], stores + [(CRASH, 2), (LOAD, 3, 0, value)]))
+    loaded = [(LSTORE, 3, 0, 1)] + [(LOAD, 2, 0, 1), (LFLUSH, 2, 0)] * 62 + off
+    case("never-written", "a value 62 times loaded and flushed, then 0 is read: allowed, 62 steps",
+         log([1], loaded + [(LOAD, 3, 0, 0)]))
+    case("written-once", "the same, then the value is read: allowed, two steps", log([1], loaded + [(LOAD, 3, 0, 1)]))
+
+
 marked_logs()
 small_logs()
 rmw_logs()
@@ -776,3 +838,6 @@ for logs in (marked_logs, small_logs, rmw_logs, initial_value_logs):
     logs(in_high_half)
 edition_logs()
 edition_refusals()
+shortest_logs()
+shortest_logs(in_high_half)
+long_schedules()

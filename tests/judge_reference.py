@@ -1,12 +1,18 @@
 #!/usr/bin/env python3
-"""judge_reference.py STDIN STDOUT: is STDOUT what crates/cases must print on STDIN, the judge's cases?
+"""judge_reference.py: reads the judge's cases of crates/cases/stdin and prints what the program must print.
+judge_reference.py STDIN STDOUT: is STDOUT what it must print on STDIN, where any run of an allowed log will do? The
+exit status is 0 only where nothing is wrong.
 
-Each log is judged anew, from document 01 and requests W-201 to W-203, W-206 and W-211 alone: a location at a time,
-forward, with every state that its silent steps can reach. A schedule that was printed is replayed on the whole system.
-The exit status is 0 only where nothing is wrong."""
+Each log is judged anew, from document 01 and requests W-201 to W-204, W-206 and W-211 alone: a location at a time,
+forward, with every state that its silent steps can reach. Its shortest schedule is found by what each state has to pay
+to the end, a location at a time too, since the states of all locations multiply. A schedule is replayed on the whole
+system."""
 import sys
+from functools import cache
+from math import inf
 
 from format_reference import Refused, fields, members
+from log_bytes import END, field
 
 LSTORE, RSTORE, MSTORE, LOAD, LFLUSH, RFLUSH, CRASH, LRMW, RRMW, MRMW, SETCRASH = range(1, 12)
 STORE_OF = {LRMW: LSTORE, RRMW: RSTORE, MRMW: MSTORE}
@@ -87,6 +93,12 @@ def after(records, x, event, state):
     return caches, records.initial[x] if owner in down and not records.kept[x] else memory
 
 
+def silent_steps(owner, state):
+    """The silent steps that are possible, by their machines, 0 for the write-back, and the state after each."""
+    moves = [move(owner, machine, state) for machine in range(1, len(state[0]) + 1)]
+    return [(machine, new) for machine, new in enumerate([write_back(owner, state)] + moves) if new is not None]
+
+
 def silently(owner, states):
     """The states that silent steps reach from some of these, breadth first."""
     seen = set(states)
@@ -94,9 +106,8 @@ def silently(owner, states):
     while wave:
         ahead = []
         for state in wave:
-            steps = [move(owner, machine, state) for machine in range(1, len(state[0]) + 1)]
-            for new in steps + [write_back(owner, state)]:
-                if new is not None and new not in seen:
+            for _, new in silent_steps(owner, state):
+                if new not in seen:
                     seen.add(new)
                     ahead.append(new)
         wave = ahead
@@ -123,6 +134,42 @@ def first_impossible_at(records, location):
 def first_impossible(records):
     found = [first_impossible_at(records, x) for x in range(len(records.owners))]
     return min((e for e in found if e is not None), default=0)
+
+
+# The shortest schedule: the fewest silent steps, and among equals the smallest numbers at the first difference.
+
+
+def shortest_at(records, x):
+    """The shortest schedule at location x, which must have a run: the least step that lowers what is left to pay, each
+    as early as it can, and the next event where none does."""
+    owner = records.owners[x]
+    events = [(number, event) for number, event in enumerate(records.events, 1) if concerns(event, x)]
+
+    @cache
+    def cost(passed, state):
+        """The fewest silent steps of a run of the events that are left; infinite where there is none."""
+        if passed == len(events):
+            return 0
+        new = after(records, x, events[passed][1], state)
+        return min([inf if new is None else cost(passed + 1, new)]
+                   + [1 + cost(passed, new) for _, new in silent_steps(owner, state)])
+
+    state, passed, found = start(records, x), 0, []
+    while cost(passed, state) > 0:
+        lower = [step for step in silent_steps(owner, state) if cost(passed, step[1]) < cost(passed, state)]
+        if lower:
+            machine, state = lower[0]
+            found.append((events[passed - 1][0], x, machine))
+        else:
+            state = after(records, x, events[passed][1], state)
+            passed += 1
+    return found
+
+
+def shortest(records):
+    """By events before, then by location; the order inside a location stays."""
+    found = [step for x in range(len(records.owners)) for step in shortest_at(records, x)]
+    return sorted(found, key=lambda step: step[0])
 
 
 # A schedule on the whole system.
@@ -178,6 +225,34 @@ AFTER_A_VERDICT = ["output outside the file as it was", "scratch all zero"]
 AFTER_A_REFUSAL = ["output as it was", "scratch as it was"]
 
 
+def answer(line):
+    """What must be printed of a case."""
+    name, log, *numbers = line.removeprefix("j ").split(" ")
+    output, offset, scratch = map(int, numbers)
+    records, number = accepted(bytes.fromhex(log))
+    if offset > output or output - offset < LONGEST or scratch < WORDS:
+        number = 1
+    if number is not None:
+        return [f"{name} number {number}"] + AFTER_A_REFUSAL
+    event = first_impossible(records)
+    if event:
+        verdict, file, replayed = f"impossible {event}", field(0x10, 0, event) + END, "number 13"
+    else:
+        steps = shortest(records)
+        assert replays(records, steps) and len(steps) <= min(most_steps(records), MOST_STEPS)
+        file = field(0x10, 1, 0) + b"".join(field(0x11, *step) for step in steps) + END
+        verdict, replayed = f"allowed {len(steps)}", "yes"
+    return [f"{name} {verdict} {len(file)}", f"file {file.hex()}", f"replay {replayed}"] + AFTER_A_VERDICT
+
+
+def answers():
+    for line in sys.stdin.read().split("\n")[:-1]:
+        print(*(answer(line) if line.startswith("j ") else [line]), sep="\n")
+
+
+# The same where any run of an allowed log will do.
+
+
 def wrong_allowed(records, name, printed):
     """What is wrong with the lines of an allowed log, or None."""
     if len(printed) != 5 or not printed[1].startswith("file "):
@@ -196,19 +271,10 @@ def wrong_allowed(records, name, printed):
 
 
 def wrong_case(line, printed):
-    name, log, *numbers = line.split(" ")
-    output, offset, scratch = map(int, numbers)
-    records, number = accepted(bytes.fromhex(log))
-    if offset > output or output - offset < LONGEST or scratch < WORDS:
-        number = 1
-    if number is not None:
-        expected = [f"{name} number {number}"] + AFTER_A_REFUSAL
-        return None if printed == expected else f"expected {expected}"
-    event = first_impossible(records)
-    if event == 0:
-        return wrong_allowed(records, name, printed)
-    file = bytes([0x10, 2, 0, 0, event, 4, 0, 0])
-    expected = [f"{name} impossible {event} {len(file)}", f"file {file.hex()}", "replay number 13"] + AFTER_A_VERDICT
+    expected = answer(line)
+    name, log, *_ = line.split(" ")
+    if expected[0].startswith(f"{name} allowed "):
+        return wrong_allowed(accepted(bytes.fromhex(log))[0], name, printed)
     return None if printed == expected else f"expected {expected}"
 
 
@@ -217,7 +283,7 @@ def lines_of(path):
         return text.read().split("\n")[:-1]
 
 
-def main():
+def check():
     cases = [line.removeprefix("j ") for line in lines_of(sys.argv[1])]
     printed = lines_of(sys.argv[2])
     names = {line.split(" ")[0] for line in cases}
@@ -236,4 +302,5 @@ def main():
     sys.exit(wrongs > 0)
 
 
-main()
+if __name__ == "__main__":
+    answers() if len(sys.argv) == 1 else check()

@@ -1,10 +1,12 @@
-//! How fast the proved judge is beside the second judge, a straightforward search with hash sets.
+//! How fast the proved judge is beside the second judge's straightforward searches with hash sets: in layers, for some
+//! run, and by a 0-1 breadth-first search, for the shortest schedule.
 //!
 //!     bench                      every table
 //!     bench one CORPUS EDITION   the proved judge and the proved converter on one log of a corpus, once, for counting
 //!                                instructions (callgrind.sh)
 
 mod corpora;
+mod hard;
 mod scan;
 mod timing;
 
@@ -13,7 +15,7 @@ use std::process::ExitCode;
 use corpora::{Corpus, CORPORA};
 use malluvom::SCRATCH_LEAST;
 use second::Edition;
-use timing::{agree, clearing, converting, converts, measure, Times};
+use timing::{agree, clearing, converting, converts, measure, Agreed, Times};
 
 fn main() -> ExitCode {
     let words: Vec<String> = std::env::args().skip(1).collect();
@@ -51,22 +53,29 @@ fn tables() -> Result<(), String> {
         "Microseconds per log, mean over a corpus of the median of {} rounds; p99 over its logs.\n",
         timing::ROUNDS
     );
-    println!("| corpus | edition | proved | p99 | second | p99 | scan | second / proved | proved / scan |");
-    println!("|---|---|---|---|---|---|---|---|---|");
+    println!(
+        "| corpus | edition | proved | p99 | second | p99 | 0-1 search | p99 | scan | second / proved | 0-1 / proved | \
+         proved / scan |"
+    );
+    println!("|---|---|---|---|---|---|---|---|---|---|---|---|");
     let mut small = None;
+    let mut all = Agreed::default();
     for edition in Edition::ALL {
         for corpus in CORPORA {
-            let times = checked(&corpus, edition)?;
+            let times = checked(&corpus.logs(edition), &mut all)?;
             println!(
-                "| {} | {} | {:.2} | {:.2} | {:.2} | {:.2} | {:.3} | {:.1} | {:.1} |",
+                "| {} | {} | {:.2} | {:.2} | {:.2} | {:.2} | {:.2} | {:.2} | {:.3} | {:.1} | {:.1} | {:.1} |",
                 corpus.title(),
                 edition.number(),
                 times.proved.mean,
                 times.proved.p99,
-                times.second.mean,
-                times.second.p99,
+                times.layers.mean,
+                times.layers.p99,
+                times.shortest.mean,
+                times.shortest.p99,
                 times.scan.mean,
-                times.second.mean / times.proved.mean,
+                times.layers.mean / times.proved.mean,
+                times.shortest.mean / times.proved.mean,
                 times.proved.mean / times.scan.mean
             );
             small.get_or_insert(times.proved.mean);
@@ -75,16 +84,21 @@ fn tables() -> Result<(), String> {
     let share = 100.0 * clear / small.unwrap_or(clear);
     println!("\nClearing {SCRATCH_LEAST} numbers takes {clear:.2} microseconds, {share:.0} % of a small log.");
     converter()?;
-    events()?;
-    locations()?;
+    events(&mut all)?;
+    locations(&mut all)?;
+    hard_logs(&mut all)?;
     scratch();
+    println!("\nOf {} allowed logs the proved judge's schedule is the shortest for {}.", all.allowed, all.same);
     Ok(())
 }
 
-fn checked(corpus: &Corpus, edition: Edition) -> Result<Times, String> {
-    let logs = corpus.logs(edition);
-    agree(&logs)?;
-    Ok(measure(&logs, SCRATCH_LEAST))
+/// The times of logs on which the sides agree, which are added to all.
+fn checked(logs: &[Vec<u8>], all: &mut Agreed) -> Result<Times, String> {
+    let agreed = agree(logs)?;
+    all.allowed += agreed.allowed;
+    all.same += agreed.same;
+    all.steps += agreed.steps;
+    Ok(measure(logs, SCRATCH_LEAST))
 }
 
 fn converter() -> Result<(), String> {
@@ -108,26 +122,56 @@ fn converter() -> Result<(), String> {
     Ok(())
 }
 
-fn events() -> Result<(), String> {
-    println!("\n| events (6 machines, 4 locations) | proved | second | second / proved |\n|---|---|---|---|");
+fn events(all: &mut Agreed) -> Result<(), String> {
+    heading("events (6 machines, 4 locations)");
     for events in [16, 32, 64, 128] {
-        row(events, &Corpus { machines: 6, locations: 4, events, ..CORPORA[1] })?;
+        row(events, &Corpus { machines: 6, locations: 4, events, ..CORPORA[1] }, all)?;
     }
     Ok(())
 }
 
-fn locations() -> Result<(), String> {
-    println!("\n| locations (6 machines, 128 events) | proved | second | second / proved |\n|---|---|---|---|");
+fn locations(all: &mut Agreed) -> Result<(), String> {
+    heading("locations (6 machines, 128 events)");
     for locations in [1, 4, 16, 32] {
-        row(locations, &Corpus { machines: 6, locations, events: 128, ..CORPORA[1] })?;
+        row(locations, &Corpus { machines: 6, locations, events: 128, ..CORPORA[1] }, all)?;
     }
     Ok(())
 }
 
-fn row(size: usize, corpus: &Corpus) -> Result<(), String> {
-    let times = checked(corpus, Edition::First)?;
-    let ratio = times.second.mean / times.proved.mean;
-    println!("| {size} | {:.2} | {:.2} | {ratio:.1} |", times.proved.mean, times.second.mean);
+fn heading(what: &str) {
+    println!("\n| {what} | proved | second | 0-1 search | second / proved | 0-1 / proved |\n|---|---|---|---|---|---|");
+}
+
+fn row(size: usize, corpus: &Corpus, all: &mut Agreed) -> Result<(), String> {
+    let Times { proved, layers, shortest, .. } = checked(&corpus.logs(Edition::First), all)?;
+    println!(
+        "| {size} | {:.2} | {:.2} | {:.2} | {:.1} | {:.1} |",
+        proved.mean,
+        layers.mean,
+        shortest.mean,
+        layers.mean / proved.mean,
+        shortest.mean / proved.mean
+    );
+    Ok(())
+}
+
+fn hard_logs(all: &mut Agreed) -> Result<(), String> {
+    println!(
+        "\n| 128 events | logs | proved | slowest | 0-1 search | 0-1 / proved | steps |\n|---|---|---|---|---|---|---|"
+    );
+    for (title, logs) in hard::rows() {
+        let steps = all.steps;
+        let Times { proved, shortest, .. } = checked(&logs, all)?;
+        println!(
+            "| {title} | {} | {:.2} | {:.2} | {:.2} | {:.1} | {:.1} |",
+            logs.len(),
+            proved.mean,
+            proved.most,
+            shortest.mean,
+            shortest.mean / proved.mean,
+            (all.steps - steps) as f64 / logs.len() as f64
+        );
+    }
     Ok(())
 }
 

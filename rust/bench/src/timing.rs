@@ -4,7 +4,8 @@ use std::hint::black_box;
 use std::time::Instant;
 
 use malluvom::{convert_into, judge_into, Judged, CONVERT_LEAST, FILE_MOST, SCRATCH_LEAST};
-use second::{judge_bytes, Verdict};
+use second::verdict_file::write;
+use second::{judge_bytes, judge_in_layers, read, Verdict};
 
 use crate::scan::scan;
 
@@ -18,32 +19,53 @@ const CALLS: usize = 4;
 pub struct Side {
     pub mean: f64,
     pub p99: f64,
+    /// Of the slowest log.
+    pub most: f64,
 }
 
-/// The three sides.
+/// The four sides.
 pub struct Times {
     pub proved: Side,
-    pub second: Side,
+    /// The second judge's search in layers, for some run.
+    pub layers: Side,
+    /// The second judge, by its 0-1 search for the shortest schedule.
+    pub shortest: Side,
     pub scan: Side,
 }
 
-/// Whether both judges agree on all logs, with each proved schedule replayed.
-pub fn agree(logs: &[Vec<u8>]) -> Result<(), String> {
+/// What all sides agree on.
+#[derive(Default)]
+pub struct Agreed {
+    pub allowed: usize,
+    /// How often the proved judge's schedule is the shortest.
+    pub same: usize,
+    /// The silent steps of the shortest schedules.
+    pub steps: usize,
+}
+
+/// Whether the judges agree on all logs, with each proved schedule replayed.
+pub fn agree(logs: &[Vec<u8>]) -> Result<Agreed, String> {
     let mut judge = malluvom::Judge::new();
+    let mut agreed = Agreed::default();
     for log in logs {
-        let proved = judge.judge(log);
-        let same = match (&proved, judge_bytes(log)) {
-            (Ok(malluvom::Verdict::Allowed(schedule)), Ok(Verdict::Allowed(_))) => {
-                malluvom::replay(log, &schedule.to_file()) == Ok(malluvom::Replayed::Yes)
+        let (proved, second) = (judge.judge(log), judge_bytes(log));
+        let same = match (&proved, &second) {
+            (Ok(malluvom::Verdict::Allowed(schedule)), Ok(Verdict::Allowed(steps))) => {
+                let file = schedule.to_file();
+                agreed.allowed += 1;
+                agreed.same += usize::from(file == write(&Verdict::Allowed(steps.clone())));
+                agreed.steps += steps.len();
+                malluvom::replay(log, &file) == Ok(malluvom::Replayed::Yes)
             }
-            (Ok(malluvom::Verdict::Impossible { event }), Ok(Verdict::Impossible(second))) => *event == second,
+            (Ok(malluvom::Verdict::Impossible { event }), Ok(Verdict::Impossible(second))) => event == second,
             _ => false,
         };
-        if !same || !scan(log) {
+        let layers = read(log).map(|log| judge_in_layers(&log).first_impossible());
+        if !same || !scan(log) || layers != second.map(|verdict| verdict.first_impossible()) {
             return Err(format!("the judges differ on {log:02x?}: {proved:?}"));
         }
     }
-    Ok(())
+    Ok(agreed)
 }
 
 /// Whether the proved converter makes each log of the second row of the same one in the first, and the other way round.
@@ -65,26 +87,29 @@ fn time(mut call: impl FnMut()) -> f64 {
     begun.elapsed().as_secs_f64() * 1e6 / CALLS as f64
 }
 
-/// Times both judges and the scan on each log. The proved judge is asked through the static library with buffers that
-/// stay; reading, the verdict's bytes and clearing the scratch are included. The second judge reads, judges and writes
-/// the verdict's bytes into fresh memory, and has no scratch to clear.
+/// Times the judges and the scan on each log. The proved judge is asked through the static library with buffers that
+/// stay; reading, the verdict's bytes and clearing the scratch are included. The second judge, by either of its
+/// searches, reads, judges and writes the verdict's bytes into fresh memory, and has no scratch to clear.
 pub fn measure(logs: &[Vec<u8>], scratch: usize) -> Times {
     let mut out = vec![0; FILE_MOST];
     let mut scratch = vec![0; scratch];
-    let [proved, second, scan] = in_turn(logs, |log| {
+    let [proved, layers, shortest, scan] = in_turn(logs, |log| {
         [
             time(|| {
                 let _ = black_box(judge_into(log, &mut out, 0, &mut scratch));
             }),
             time(|| {
-                let _ = black_box(judge_bytes(log).map(|verdict| second::verdict_file::write(&verdict)));
+                let _ = black_box(read(log).map(|log| write(&judge_in_layers(&log))));
+            }),
+            time(|| {
+                let _ = black_box(judge_bytes(log).map(|verdict| write(&verdict)));
             }),
             time(|| {
                 let _ = black_box(scan(black_box(log)));
             }),
         ]
     });
-    Times { proved, second, scan }
+    Times { proved, layers, shortest, scan }
 }
 
 /// Times the proved and the second converter on each log. Both read the log and write into an output that stays.
@@ -121,7 +146,8 @@ fn median(times: &mut [f64]) -> f64 {
 
 fn summary(mut times: Vec<f64>) -> Side {
     times.sort_by(f64::total_cmp);
-    Side { mean: times.iter().sum::<f64>() / times.len() as f64, p99: times[times.len() * 99 / 100] }
+    let count = times.len();
+    Side { mean: times.iter().sum::<f64>() / count as f64, p99: times[count * 99 / 100], most: times[count - 1] }
 }
 
 /// Microseconds to set so many numbers to zero.

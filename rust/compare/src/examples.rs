@@ -3,10 +3,10 @@
 use std::path::{Path, PathBuf};
 
 use corpus::Random;
-use second::{judge, read, replay, Replayed, Step, Verdict};
+use second::{judge_bytes, printed, read, replay, Replayed, Step, Verdict};
 
 use crate::report::Report;
-use crate::trial;
+use crate::trial::{self, SAME_SCHEDULE};
 
 /// Compares every .log file in the folders of a folder. A file without stored output is named, and is no difference.
 pub fn compare(folder: &Path) -> bool {
@@ -49,30 +49,31 @@ fn collect(folder: &Path, logs: &mut Vec<PathBuf>) -> std::io::Result<()> {
     Ok(())
 }
 
-/// Whether the second judge agrees with a stored output: its verdict, event or number, and a schedule that is a run.
+/// Whether a stored output is what the second judge prints; or, while schedules may differ, an allowed log's verdict
+/// and the steps of some run.
 fn stored(log: &[u8], out: &str) -> Result<(), String> {
+    let judged = judge_bytes(log);
+    let second = printed(&judged);
+    if out == second {
+        return Ok(());
+    }
+    match judged {
+        Ok(Verdict::Allowed(_)) if !SAME_SCHEDULE => some_run(log, out),
+        _ => Err(format!("the second judge prints {second:?}")),
+    }
+}
+
+/// Whether a stored output says allowed, with as many steps as it has, and these are a run.
+fn some_run(log: &[u8], out: &str) -> Result<(), String> {
     let body = out.strip_suffix("end\n").ok_or("does not stop with 'end'")?;
     let (first, steps) = body.split_once('\n').ok_or("has no first line")?;
-    let says = |expected: String| match body == format!("{expected}\n") {
-        true => Ok(()),
-        false => Err(format!("the second judge says '{expected}'")),
-    };
-    let records = match read(log) {
-        Ok(records) => records,
-        Err(refusal) => return says(refusal.to_string()),
-    };
-    match judge(&records) {
-        Verdict::Impossible(event) => says(format!("impossible {event}")),
-        Verdict::Allowed(_) => {
-            let steps = steps.lines().map(step).collect::<Option<Vec<_>>>().ok_or("a line is no step")?;
-            if first != format!("allowed {}", steps.len()) {
-                return Err(format!("the second judge says allowed, and there are {} steps", steps.len()));
-            }
-            match replay(&records, &steps) {
-                Replayed::Yes => Ok(()),
-                Replayed::No(passed) => Err(format!("its steps stop being a run after {passed} events")),
-            }
-        }
+    let steps = steps.lines().map(step).collect::<Option<Vec<_>>>().ok_or("a line is no step")?;
+    if first != format!("allowed {}", steps.len()) {
+        return Err(format!("the second judge says allowed, and there are {} steps", steps.len()));
+    }
+    match read(log).map(|records| replay(&records, &steps)) {
+        Ok(Replayed::Yes) => Ok(()),
+        answer => Err(format!("its steps are no run: {answer:?}")),
     }
 }
 

@@ -1,8 +1,9 @@
 //! The kinds of logs, each from a seed of its own.
 
 use corpus::encode::{boundaries, encode, field};
-use corpus::{change_high_half, change_one_load, crash, damage, litmus, near_home, near_set_crash, other_part, plain};
-use corpus::{plausible, power_loss, power_on, random_log, set_crash, two_kinds, widened, Random, Shape};
+use corpus::{change_high_half, change_one_load, crash, damage, hard, litmus, narrow, near_home, near_set_crash};
+use corpus::{other_part, plain, plausible, power_loss, power_on, random_log, set_crash, shared, two_kinds, widened};
+use corpus::{Random, Shape};
 use second::{Edition, Event, Home, Log, Operation};
 
 use crate::report::Report;
@@ -11,7 +12,7 @@ use crate::trial;
 /// A kind of logs, how many there are in one round, and how one is made.
 type Kind = (&'static str, usize, fn(&mut Random) -> Vec<u8>);
 
-const KINDS: [Kind; 9] = [
+const KINDS: [Kind; 10] = [
     ("01 plausible, by simulating the system", 50_000, simulated),
     ("02 plausible with one load changed", 60_000, changed),
     ("03 random", 50_000, any),
@@ -23,9 +24,10 @@ const KINDS: [Kind; 9] = [
         written(power_on(random), random)
     }),
     ("09 like litmus tests, owners have both kinds of memory", 40_000, |random| written(two_kinds(random), random)),
+    ("10 few runs explain them, or many silent steps, or any of several", 16_000, few_runs),
 ];
 
-const SMALL: &str = "10 every log of three events or fewer, two machines, one location, two values";
+const SMALL: &str = "11 every log of three events or fewer, two machines, one location, two values";
 
 /// At least so many accepted logs of each kind have a read-modify-write, at least so many a set crash, and so on: what
 /// is not made is not compared.
@@ -83,6 +85,41 @@ fn any(random: &mut Random) -> Vec<u8> {
         shape.events = shape.events.min(random.between(1, 8));
     }
     written(random_log(random, &shape), random)
+}
+
+/// Logs whose silent steps are hard to find, most of them short; now and then with one load changed, or one event less.
+fn few_runs(random: &mut Random) -> Vec<u8> {
+    let shape = Shape { locations: random.between(1, 3), ..Shape::random(random) };
+    let log = match random.below(20) {
+        0 => narrow(random, &shape, 2),
+        1 => many_steps(random),
+        2..=7 => shared(random),
+        _ => {
+            let (events, choices) = (random.below(33), random.between(1, 5));
+            narrow(random, &Shape { events, ..shape }, choices)
+        }
+    };
+    let log = if random.percent(20) { change_one_load(random, &log, shape.values) } else { log };
+    written(log, random)
+}
+
+fn many_steps(random: &mut Random) -> Log {
+    let mut log = match random.below(4) {
+        0 => {
+            let values = random.between(1, 41);
+            hard::moved(values as u32, random.below(values + 1) as u32)
+        }
+        1 => {
+            let values = random.between(1, 126);
+            hard::overwritten(values as u32, random.between(1, values) as u32)
+        }
+        2 => hard::flushed(random.between(1, 64) as u32),
+        _ => hard::never_written(random.between(1, 62)),
+    };
+    if random.percent(30) {
+        log.events.remove(random.below(log.events.len()));
+    }
+    log
 }
 
 fn damaged(random: &mut Random) -> Vec<u8> {

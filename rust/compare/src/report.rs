@@ -3,7 +3,7 @@
 use std::collections::{BTreeMap, BTreeSet};
 use std::ops::RangeInclusive;
 
-use second::Refusal;
+use second::{Edition, Home, Log, Operation, Refusal, Verdict};
 
 /// So many differences are printed; the others are only counted.
 const PRINTED: usize = 10;
@@ -36,6 +36,21 @@ pub struct Verdicts {
 }
 
 impl Verdicts {
+    /// Counts an accepted log.
+    pub fn count(&mut self, log: &Log, verdict: &Verdict) {
+        match verdict {
+            Verdict::Allowed(_) => self.allowed += 1,
+            Verdict::Impossible(_) => self.impossible += 1,
+        }
+        let any = |is: fn(Operation) -> bool| usize::from(log.events.iter().any(|event| is(event.operation)));
+        self.with_rmw += any(Operation::is_rmw);
+        self.with_set_crash += any(|operation| operation == Operation::SetCrash);
+        let some = |is: &dyn Fn(&Home) -> bool| usize::from(log.homes.iter().any(is));
+        self.with_initial += some(&|home| home.initial != 0);
+        self.with_kind += some(&|home| home.kind != log.kind_of(home.owner));
+        self.in_edition_2 += usize::from(log.edition == Edition::Second);
+    }
+
     /// How many of the accepted have what an accepted log may have, each in words.
     fn made(&self) -> [(usize, &'static str); 5] {
         [
@@ -64,6 +79,11 @@ pub struct Report {
 }
 
 impl Report {
+    /// The verdicts of a kind of logs.
+    pub fn verdicts(&mut self, kind: &'static str) -> &mut Verdicts {
+        self.kinds.entry(kind).or_default()
+    }
+
     /// Counts one answer of a call beside the judge's.
     pub fn call(&mut self, call: &'static str, answer: Result<&'static str, Refusal>) {
         *self.calls.entry((call, answer)).or_default() += 1;

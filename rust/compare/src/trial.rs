@@ -1,11 +1,15 @@
 //! One log through every call on both sides.
 
 use corpus::Random;
-use second::{read_schedule, replay, verdict_file, Edition, Home, Log, Operation, Refusal, Replayed, Step, Verdict};
+use second::{read_schedule, replay, verdict_file, Log, Refusal, Replayed, Step, Verdict};
 use second::{FILE_MOST, SCRATCH_LEAST, STEPS_MOST};
 
-use crate::report::{hex, Report, Verdicts};
+use crate::report::{hex, Report};
 use crate::{converting, expected, proved, recording, replaying};
+
+/// Whether the proved judge gives the shortest schedule, so that the file of an allowed log is compared byte for byte,
+/// and each stored output. Until it does, its schedule must be a run, and have no fewer steps than the shortest.
+pub const SAME_SCHEDULE: bool = false;
 
 /// What the proved judge made of an accepted log: its answer, the file, and the silent steps in it.
 #[derive(Default)]
@@ -107,41 +111,39 @@ fn judged(
 ) -> Judged {
     let mut areas = Areas::enough(random);
     let answer = proved::judge(log, &mut areas.out, areas.offset, &mut areas.scratch);
-    let verdicts = report.kinds.entry(kind).or_insert_with(Verdicts::default);
     let records = match records {
         Ok(records) => records,
         Err(refusal) => {
-            *verdicts.refused.entry(refusal.0).or_default() += 1;
+            *report.verdicts(kind).refused.entry(refusal.0).or_default() += 1;
             report.same("judge of a refused log", log, answer, u64::from(refusal.0));
             report.same("judge left the buffers of a refused log unchanged", log, areas.unchanged(), true);
             return Judged::default();
         }
     };
+    let verdict = second::judge(records);
+    report.verdicts(kind).count(records, &verdict);
     let longest = &mut report.longest[records.edition as usize];
     *longest = log.len().max(*longest);
-    verdicts.in_edition_2 += usize::from(records.edition == Edition::Second);
-    let any = |is: fn(Operation) -> bool| usize::from(records.events.iter().any(|event| is(event.operation)));
-    verdicts.with_rmw += any(Operation::is_rmw);
-    verdicts.with_set_crash += any(|operation| operation == Operation::SetCrash);
-    let some = |is: &dyn Fn(&Home) -> bool| usize::from(records.homes.iter().any(is));
-    verdicts.with_initial += some(&|home| home.initial != 0);
-    verdicts.with_kind += some(&|home| home.kind != records.kind_of(home.owner));
+    let layers = second::judge_in_layers(records);
+    report.same("first impossible event in layers", log, layers.first_impossible(), verdict.first_impossible());
     let length = ((answer >> 40) as usize & 0xffff).min(FILE_MOST);
     let file = areas.out[areas.offset..][..length].to_vec();
-    let verdict = second::judge(records);
+    let second = verdict_file::write(&verdict);
     let steps = match &verdict {
         Verdict::Impossible(event) => {
-            verdicts.impossible += 1;
-            let file = verdict_file::write(&verdict);
-            report.same("verdict", log, answer, expected::impossible(*event, file.len()));
-            report.same("buffers after an impossible log", log, areas.holds(&file), true);
+            report.same("verdict", log, answer, expected::impossible(*event, second.len()));
+            report.same("buffers after an impossible log", log, areas.holds(&second), true);
             Vec::new()
         }
-        Verdict::Allowed(own) => {
-            verdicts.allowed += 1;
+        Verdict::Allowed(shortest) => {
             let steps = allowed(log, records, answer, &file, &areas, report);
-            let own = verdict_file::write(&Verdict::Allowed(own.clone()));
-            report.same("replay of the second judge's schedule", log, proved::replay(log, &own), 1 << 8);
+            if SAME_SCHEDULE && file != second {
+                report.differ("verdict file", log, &format!("proved {}, second {}", hex(&file), hex(&second)));
+            }
+            report.same("no fewer steps than the shortest schedule", log, steps.len() >= shortest.len(), true);
+            report.same("replay of the shortest schedule", log, proved::replay(log, &second), 1 << 8);
+            let other = verdict_file::write(&layers);
+            report.same("replay of another run", log, proved::replay(log, &other), 1 << 8);
             steps
         }
     };

@@ -106,7 +106,7 @@ impl Shape {
     }
 
     /// The head of a log of this shape.
-    fn head(&self, random: &mut Random) -> Log {
+    pub(crate) fn head(&self, random: &mut Random) -> Log {
         let all = (1 << self.machines) - 1;
         let some = random.byte() & all;
         let persistent = *random.pick(&[all, 0, some]);
@@ -134,7 +134,7 @@ impl Shape {
 
     /// An event that names only what the log has. The owner's events count most, so it is the machine more often than
     /// another.
-    fn event(&self, random: &mut Random, homes: &[Home]) -> Event {
+    pub(crate) fn event(&self, random: &mut Random, homes: &[Home]) -> Event {
         let location = random.below(self.locations) as u8;
         let home = homes.get(usize::from(location));
         let machine = match home {
@@ -267,9 +267,20 @@ pub fn near_set_crash(random: &mut Random, edition: Edition, machines: u8) -> Ve
 /// A log by simulating the system: random silent steps between the events, and each load and each read-modify-write
 /// returns what it finds. It is allowed.
 pub fn plausible(random: &mut Random, shape: &Shape) -> Log {
-    let mut log = shape.head(random);
-    let mut system = System::start(&log);
+    let head = shape.head(random);
     let restless = *random.pick(&[0, 20, 60]);
+    run_of(random, shape, head, restless)
+}
+
+/// The same, where in so many of a hundred cases there is another random silent step.
+pub fn simulated(random: &mut Random, shape: &Shape, restless: usize) -> Log {
+    let head = shape.head(random);
+    run_of(random, shape, head, restless)
+}
+
+fn run_of(random: &mut Random, shape: &Shape, head: Log, restless: usize) -> Log {
+    let mut log = head;
+    let mut system = System::start(&log);
     while log.events.len() < shape.events {
         while shape.locations > 0 && random.percent(restless) {
             let location = random.below(shape.locations) as u8;
@@ -390,6 +401,48 @@ pub fn power_loss(random: &mut Random) -> Log {
     let last = random.between(1, shape.machines) as u8;
     let read = *random.pick(&[value, value, home.initial, home.initial, 0]);
     log.events.push(event(Operation::Load, last, read));
+    log
+}
+
+/// A log like a litmus test where it may not matter which copy moves: after a short run a value is stored and loaded by
+/// several machines, and most often the owner crashes, so that nothing can have moved before; then caches are flushed
+/// or emptied by crashes; and then a load of the value, of the initial one or of 0.
+pub fn shared(random: &mut Random) -> Log {
+    let shape = Shape {
+        machines: random.between(3, 4),
+        locations: random.between(1, 2),
+        events: random.below(4),
+        crashes: 25,
+        set_crashes: 50,
+        patterns: *random.pick(&[0, 60]),
+        kinds: *random.pick(&[0, 40]),
+        values: 3,
+        operations: some_operations(random, 20),
+    };
+    let mut log = plausible(random, &shape);
+    let location = random.below(shape.locations) as u8;
+    let value = shape.values as u32;
+    let event = |operation, machine, value| Event { operation, machine, location, value, written: 0 };
+    let home = log.homes[usize::from(location)];
+    let machine = |random: &mut Random| random.between(1, shape.machines) as u8;
+    log.events.push(event(Operation::LStore, machine(random), value));
+    for _ in 0..random.between(1, 3) {
+        log.events.push(event(Operation::Load, machine(random), value));
+    }
+    if random.percent(80) {
+        log.events.push(crash(home.owner));
+    }
+    for _ in 0..random.between(1, 2) {
+        let machine = machine(random);
+        log.events.push(match random.below(4) {
+            0 => event(Operation::LFlush, machine, 0),
+            1 => event(Operation::RFlush, machine, 0),
+            2 => set_crash(set_with(random, machine, log.machines)),
+            _ => set_crash(((1 << log.machines) - 1) & !(1 << (home.owner - 1))),
+        });
+    }
+    let read = *random.pick(&[value, value, home.initial, 0]);
+    log.events.push(event(Operation::Load, machine(random), read));
     log
 }
 

@@ -1,6 +1,7 @@
 //! The verdict of a log, and the judge's call with lent buffers.
 
-use crate::search::Search;
+use crate::layers::Layers;
+use crate::shortest::Shortest;
 use crate::{log, verdict_file, Log, Refusal, Step, FILE_MOST};
 
 /// The work area must have at least so many numbers.
@@ -15,14 +16,36 @@ pub enum Verdict {
     Impossible(u8),
 }
 
-/// Judges the records of a log.
+impl Verdict {
+    /// The first impossible event, if there is one.
+    pub fn first_impossible(&self) -> Option<u8> {
+        match self {
+            Verdict::Allowed(_) => None,
+            Verdict::Impossible(event) => Some(*event),
+        }
+    }
+}
+
+/// Judges the records of a log, with the shortest schedule if it is allowed: the fewest silent steps of any run, and of
+/// these the one whose numbers, in file order, are smallest at the first difference.
 pub fn judge(log: &Log) -> Verdict {
-    let mut search = Search::default();
+    let mut search = Shortest::default();
+    location_by_location(log, |location, events| search.run(log, location, events))
+}
+
+/// The same verdict by a search in layers, with the steps of some run if the log is allowed.
+pub fn judge_in_layers(log: &Log) -> Verdict {
+    let mut search = Layers::default();
+    location_by_location(log, |location, events| search.run(log, location, events))
+}
+
+/// Searches the locations one after the other, each with the first so many events, and puts together what was found.
+fn location_by_location(log: &Log, mut search: impl FnMut(u8, usize) -> Result<Vec<Step>, usize>) -> Verdict {
     let mut steps = Vec::new();
     let mut events = log.events.len();
     let mut first = None;
     for location in 0..log.homes.len() as u8 {
-        match search.run(log, location, events) {
+        match search(location, events) {
             Ok(found) => steps.extend(found),
             // Only an earlier event of another location can still be the first.
             Err(event) => {
@@ -34,6 +57,7 @@ pub fn judge(log: &Log) -> Verdict {
     match first {
         Some(event) => Verdict::Impossible(event as u8),
         None => {
+            // Of steps with as many events before, those of a smaller location stay in front.
             steps.sort_by_key(|step| step.before);
             Verdict::Allowed(steps)
         }

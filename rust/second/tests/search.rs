@@ -1,7 +1,10 @@
-//! The search of one location at a time against the search over the whole system, and against simulation.
+//! The searches of one location at a time against the search over the whole system, and against simulation.
 
-use corpus::{change_one_load, encode, litmus, plausible, random_log, some_operations, Random, Shape};
-use second::{judge, read, replay, whole, Log, Replayed, Verdict};
+mod searches;
+
+use corpus::{change_one_load, litmus, plausible, random_log, some_operations, Random, Shape};
+use searches::{first_impossible, judged};
+use second::Log;
 
 fn small(random: &mut Random) -> Shape {
     Shape {
@@ -17,19 +20,6 @@ fn small(random: &mut Random) -> Shape {
     }
 }
 
-/// The verdict, with its schedule replayed and its step count within the bound.
-fn first_impossible(log: &Log) -> Option<u8> {
-    assert_eq!(read(&encode(log)).as_ref(), Ok(log));
-    match judge(log) {
-        Verdict::Allowed(steps) => {
-            assert_eq!(replay(log, &steps), Replayed::Yes);
-            assert!(steps.len() <= log.steps_most());
-            None
-        }
-        Verdict::Impossible(event) => Some(event),
-    }
-}
-
 #[test]
 fn one_location_at_a_time_is_the_whole_system() {
     let mut random = Random::new(1);
@@ -38,7 +28,6 @@ fn one_location_at_a_time_is_the_whole_system() {
         let shape = small(&mut random);
         let log = random_log(&mut random, &shape);
         let first = first_impossible(&log);
-        assert_eq!(first, whole::first_impossible(&log), "{log:?}");
         impossible += usize::from(first.is_some());
     }
     assert!((600..2400).contains(&impossible), "{impossible} of 3000 impossible");
@@ -52,7 +41,7 @@ fn simulated_logs_are_allowed_and_changed_ones_agree() {
         let log = plausible(&mut random, &shape);
         assert_eq!(first_impossible(&log), None, "{log:?}");
         let changed = change_one_load(&mut random, &log, shape.values);
-        assert_eq!(first_impossible(&changed), whole::first_impossible(&changed), "{changed:?}");
+        first_impossible(&changed);
     }
 }
 
@@ -63,7 +52,6 @@ fn logs_like_litmus_tests_agree() {
     for _ in 0..1500 {
         let log = litmus(&mut random);
         let first = first_impossible(&log);
-        assert_eq!(first, whole::first_impossible(&log), "{log:?}");
         impossible += usize::from(first.is_some());
     }
     assert!((200..1300).contains(&impossible), "{impossible} of 1500 impossible");
@@ -75,7 +63,7 @@ fn large_simulated_logs_are_allowed() {
     for _ in 0..300 {
         let shape = Shape::random(&mut random);
         let log = plausible(&mut random, &shape);
-        assert_eq!(first_impossible(&log), None, "{log:?}");
+        assert_eq!(judged(&log), None, "{log:?}");
     }
 }
 
@@ -87,10 +75,10 @@ fn the_first_impossible_event_is_the_first() {
     for _ in 0..500 {
         let shape = Shape { events: random.between(1, 40), ..Shape::random(&mut random) };
         let log = random_log(&mut random, &shape);
-        let Some(event) = first_impossible(&log) else {
+        let Some(event) = judged(&log) else {
             continue;
         };
-        let first = |events: usize| first_impossible(&Log { events: log.events[..events].to_vec(), ..log.clone() });
+        let first = |events: usize| judged(&Log { events: log.events[..events].to_vec(), ..log.clone() });
         assert_eq!(first(usize::from(event) - 1), None);
         assert_eq!(first(usize::from(event)), Some(event));
     }

@@ -1,28 +1,22 @@
-//! The search of one location, breadth first. A layer is the set of states that the location can be in after so many
-//! events and any silent steps; a layer without states means that no run gets there.
+//! The search of one location in layers. A layer is the set of states that the location can be in after so many events
+//! and any silent steps; a layer without states means that no run gets there.
 
 use std::collections::HashSet;
 
 use crate::local::Local;
+use crate::trail::{steps_to, Node};
 use crate::{Log, Step};
-
-/// How a state was reached: from the node at `parent`, by a silent step or by an event.
-struct Node {
-    state: Local,
-    parent: u32,
-    step: Option<Step>,
-}
 
 /// The search of one location after another; it keeps its memory from one to the next.
 #[derive(Default)]
-pub(crate) struct Search {
+pub(crate) struct Layers {
     nodes: Vec<Node>,
     seen: HashSet<Local>,
 }
 
-impl Search {
-    /// Follows the first `events` events at one location. Gives the silent steps of a run, or the number of the first
-    /// event, counted from 1, that no choice of silent steps lets happen.
+impl Layers {
+    /// Follows the first `events` events at one location. Gives the silent steps of some run, or the number of the
+    /// first event, counted from 1, that no choice of silent steps lets happen.
     pub(crate) fn run(&mut self, log: &Log, location: u8, events: usize) -> Result<Vec<Step>, usize> {
         let home = log.homes[usize::from(location)];
         self.nodes.clear();
@@ -53,7 +47,7 @@ impl Search {
             layer = end;
             self.close(log, location, layer, passed + 1);
         }
-        Ok(self.steps_to(layer))
+        Ok(steps_to(&self.nodes, layer))
     }
 
     /// Adds every state that silent steps reach from the layer.
@@ -76,17 +70,5 @@ impl Search {
         if self.seen.insert(state) {
             self.nodes.push(Node { state, parent: parent as u32, step });
         }
-    }
-
-    /// The silent steps on the way to a node. The first node is its own parent.
-    fn steps_to(&self, mut at: usize) -> Vec<Step> {
-        let mut steps = Vec::new();
-        while at != 0 {
-            let node = &self.nodes[at];
-            steps.extend(node.step);
-            at = node.parent as usize;
-        }
-        steps.reverse();
-        steps
     }
 }
