@@ -19,7 +19,8 @@ use Rattle.segments.specs.Costs.{ending, restFrom}
 use Rattle.segments.specs.declared.words.Segment.{Segment}
 use Rattle.segments.specs.declared.words.Block.{Block}
 
--- From code c with copies of value u and memory value m, the events from gap t to gap n have a run with at most x steps.
+-- From code c with copies of value u and memory value m, the events from gap t to gap n have a run with at most x
+-- steps.
 abbrev pub Left : Site → List ℕ → (n t : ℕ) → (u : Value) → (c : ℕ) → (m : Value) → ℕ → Type 0
 Left k w n t u c m x = Pays k (eventsFrom w t (n - t)) (state c u m) x
 
@@ -51,7 +52,8 @@ pub record Follows (k : Site) (w : List ℕ) (b : Block) (l : ℕ) : Type 0 wher
 pub data Closes (k : Site) (w : List ℕ) (b : Block) (l : ℕ) : Type 0 where
   store : Follows k w b l → Closes k w b l
   final : suc l ≡ b .count → suc (segmentIn w l .end) ≡ b .end → Accepts k w b (segmentIn w l) true → Closes k w b l
-  ended : suc l ≡ b .count → segmentIn w l .end ≡ b .end → segmentIn w l .closing ≡ 0 → b .forced ≡ false → Closes k w b l
+  ended : suc l ≡ b .count → segmentIn w l .end ≡ b .end → segmentIn w l .closing ≡ 0 → b .forced ≡ false
+      → Closes k w b l
 
 -- ---- segments
 

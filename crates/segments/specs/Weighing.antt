@@ -31,8 +31,8 @@ pub record Restable (w : List ℕ) (b : Block) (l : ℕ) : Type 0 where
 
 -- ---- write-backs
 
--- The segment is one of the block, and what is left to pay behind its last gap, without a copy, is `back` with the value
--- of the copies in memory and, if it has a reset, `zeta` with the initial value, where the event there lets that pass.
+-- The segment is one of the block, and what is left to pay behind its last gap, without a copy, is `back` with the
+-- value of the copies in memory and, if it has a reset, `zeta` with the initial value.
 pub record Backable (site : Site) (b : Block) (l : ℕ) (back zeta : ℕ) (w : List ℕ) : Type 0 where
   pub room : WORDS ≤ length w
   pub short : b .end ≤ MOST

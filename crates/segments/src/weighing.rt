@@ -117,8 +117,8 @@ fn spared(a: u64, b: u64) -> u64
     if a <= b { 0 } else { a - b }
 }
 
-// Puts the costs of segment l; `least` is at most what the segments after it cost, with any memory value. Hands back such
-// a number for this segment.
+// Puts the costs of segment l; `least` is at most what the segments after it cost, with any memory value. Hands back
+// such a number for this segment.
 pub fn weigh(w: &mut [u64], site: Site, b: Block, l: usize, least: u64) -> u64
     requires { ⌜ Weighable site b l least (now w) ⌝ }
     ensures { λ r. ⌜ Weighed site b l (now (w .entry)) r (now (w .exit)) ⌝ }
