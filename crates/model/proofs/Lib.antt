@@ -34,7 +34,9 @@ pub mod Steps
 pub mod RunsOf
 pub mod Smallest
 pub mod Greedy
+pub mod Payments
 pub mod ShortestParts
+pub mod RunBounds
 pub mod Bits
 pub mod Limits
 pub mod Theorems

@@ -72,6 +72,15 @@ pub foreign-elsewhere : (x : Location) (e : Event) {y : Location} → locationOf
 unfolding ownEvent eventAt
 foreign-elsewhere x e p t = rw p (rw p at t)
 
+-- An event that names x concerns x.
+pub own-concerns : (x : Location) (e : Event) → T (ownEvent x e) → T (eventAt x e)
+unfolding ownEvent eventAt
+own-concerns x e = go (locationOf e)
+  where
+    go : (o : Option Location) → T (isHere x o) → T (isHereOrNowhere x o)
+    go (some y) t = t
+    go none t = absurd t
+
 -- A crash concerns every location.
 pub crash-everywhere : (x : Location) (e : Event) → T (isCrash e) → T (eventAt x e)
 unfolding isCrash eventAt

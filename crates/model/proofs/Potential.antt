@@ -18,7 +18,7 @@ use Rattle.model.proofs.Sharers.{has-insert, has-remove, has-remove-all
 use Rattle.model.proofs.Sharers.{remove-le, remove-all-le}
 use Rattle.model.proofs.Expand.{machine-bounds}
 use Rattle.model.specs.Sums.{sum}
-use Rattle.model.proofs.Sums.{sum-zero, sum-le, sum-at}
+use Rattle.model.proofs.Sums.{sum-zero, sum-ones, sum-le, sum-at}
 
 -- 1 for a test that is passed, 0 for one that is failed.
 abbrev pub one : Bool → ℕ
@@ -37,7 +37,7 @@ one-lost true a b = omega (arith, one-le (a && b))
 one-lost false a b = omega arith
 
 -- Machine i is one of 1 to n.
-abbrev Among : ℕ → Machine → Type 0
+abbrev pub Among : ℕ → Machine → Type 0
 Among n i = (1 ≤ i) × (i ≤ n)
 
 -- A set with a member does not have the code 0.
@@ -101,36 +101,41 @@ module _ (n : ℕ) (k : Machine) where
       (λ j h. rw (lost j) (one-lost (gone j) (has j c) (not (eqb j k))))
 
   -- The potential at the code c; `min c 1` is 1 if the set is not empty.
-  potential : ℕ → ℕ
+  pub potential : ℕ → ℕ
   potential c = others c + min c 1
 
-  potential-none : potential 0 ≡ 0
+  pub potential-none : potential 0 ≡ 0
   unfolding potential
   potential-none = omega (arith, others-none)
 
+  -- It is at most two more than there are machines.
+  pub potential-most : (c : ℕ) → potential c ≤ n + 2
+  unfolding potential others
+  potential-most c = omega (arith, sum-ones (suc n) (λ j. one (other c j)) (λ j h. one-le (other c j)))
+
   -- How each change of the code changes the potential.
-  after-store : (i : Machine) → Among n i → potential (insert i 0) ≤ 2
+  pub after-store : (i : Machine) → Among n i → potential (insert i 0) ≤ 2
   unfolding potential
   after-store i h = omega (arith, others-insert i 0 h, others-none, one-le (not (eqb i k)))
 
-  after-load : (i : Machine) (c : ℕ) → Among n i → potential (cond (eqb c 0) 0 (insert i c)) ≤ potential c + 1
+  pub after-load : (i : Machine) (c : ℕ) → Among n i → potential (cond (eqb c 0) 0 (insert i c)) ≤ potential c + 1
   unfolding potential
   after-load i zero h = omega arith
   after-load i (suc c) h =
       rw (eqb·suc-zero c) (omega (arith, others-insert i (suc c) h, one-le (not (eqb i k))))
 
-  after-crash : (i : Machine) (c : ℕ) → potential (remove i c) ≤ potential c
+  pub after-crash : (i : Machine) (c : ℕ) → potential (remove i c) ≤ potential c
   unfolding potential
   after-crash i c =
       omega (arith, others-lost c (remove i c) (λ j. eqb j i) (λ j. has-remove i j c), remove-le i c)
 
-  after-set-crash : (set : MachineSet) (c : ℕ) → potential (removeAll set c) ≤ potential c
+  pub after-set-crash : (set : MachineSet) (c : ℕ) → potential (removeAll set c) ≤ potential c
   unfolding potential
   after-set-crash set c =
       let lost = others-lost c (removeAll set c) (λ j. has j set) (λ j. has-remove-all set j c) in
       omega (arith, lost, remove-all-le set c)
 
-  after-propagate : (i : Machine) (c : ℕ) → Among n k → Among n i → T (not (eqb i k) && has i c)
+  pub after-propagate : (i : Machine) (c : ℕ) → Among n k → Among n i → T (not (eqb i k) && has i c)
       → potential (moved k i c) + 1 ≤ potential c
   unfolding potential moved
   after-propagate i c o h t =
@@ -145,7 +150,7 @@ module _ (n : ℕ) (k : Machine) where
         not-empty i c member,
       )
 
-  before-write-back : (c : ℕ) → T (has k c) → 1 ≤ potential c
+  pub before-write-back : (c : ℕ) → T (has k c) → 1 ≤ potential c
   unfolding potential
   before-write-back c t = omega (arith, not-empty k c t)
 

@@ -14,6 +14,12 @@ unfolding sum
 sum-zero zero f z = refl
 sum-zero (suc n) f z = omega (arith, z n, sum-zero n f z)
 
+-- A sum of ones and zeros is at most as great as it is long.
+pub sum-ones : (n : ℕ) (f : ℕ → ℕ) → ((j : ℕ) → j < n → f j ≤ 1) → sum n f ≤ n
+unfolding sum
+sum-ones zero f few = omega arith
+sum-ones (suc n) f few = omega (arith, few n (omega arith), sum-ones n f (λ j h. few j (omega arith)))
+
 -- A sum that is nowhere greater is not greater.
 pub sum-le : (n : ℕ) (f g : ℕ → ℕ) → ((j : ℕ) → j < n → f j ≤ g j) → sum n f ≤ sum n g
 unfolding sum

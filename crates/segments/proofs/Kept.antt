@@ -50,7 +50,7 @@ module _ {w w' : List ℕ} (kept : Kept w w') where
   kept-event t h =
       sym (meant-read w' t (structIn w' t) refl) ∙ ap meant (kept .structs t h) ∙ meant-read w t (structIn w t) refl
 
-  kept-events : (t n : ℕ) → (0 < n → t + n ≤ MOST) → eventsFrom w' t n ≡ eventsFrom w t n
+  pub kept-events : (t n : ℕ) → (0 < n → t + n ≤ MOST) → eventsFrom w' t n ≡ eventsFrom w t n
   unfolding eventsFrom
   kept-events t zero h = refl
   kept-events t (suc n) h =

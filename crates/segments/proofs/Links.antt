@@ -168,7 +168,7 @@ module _ (k : Site) (w : List ℕ) (b : Block) (l : ℕ) (seg : IsSegment k w b 
   -- ---- with the numbers of the segments behind it
 
   -- What is to pay behind the last gap: what comes next with the memory value there.
-  behind-memory : restFrom w b (suc l) (memoryAt k s m (s .end))
+  pub behind-memory : restFrom w b (suc l) (memoryAt k s m (s .end))
       ≡ behindOf s (clearedOf w b l s (k .initial)) (restFrom w b (suc l) m)
   behind-memory =
       elim (decLe (s .end) (s .reset)) [

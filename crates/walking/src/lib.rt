@@ -38,7 +38,7 @@ ghost use Rattle.walking.specs.Walks.{Noted, Enters, Moved, Standing, Tu
 const WRITE_BACK: Machine = Machine(0);
 
 // The word of a step of the site after t events, by machine i.
-fn word(site: Site, t: usize, i: Machine) -> u64
+pub fn word(site: Site, t: usize, i: Machine) -> u64
     requires { ⌜ t < 256 ⌝ }
     ensures { λ r. ⌜ r ≡ wordOf t (site .location .0) (i .0) ⌝ }
 {

@@ -1,0 +1,15 @@
+pub mod Towards
+pub mod Choosing
+pub mod Keeping
+pub mod Stepping
+pub mod Passing
+pub mod Treads
+pub mod EventKinds
+pub mod Cutting
+pub mod Splits
+pub mod Pricing
+pub mod Places
+pub mod Crossing
+pub mod Walking
+pub mod FewSteps
+pub mod WholeBlocks

@@ -1,0 +1,4 @@
+pub mod Toward
+pub mod Treading
+pub mod Splitting
+pub mod Blocks
