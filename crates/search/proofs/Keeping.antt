@@ -6,9 +6,9 @@ use mathlib.Core.Path.{_≡_, refl, sym, ap, _∙_}
 use mathlib.Core.List.{List}
 use lib.ListN.{take, drop}
 use Rattle.scratch.specs.Layout.{ROWS, STEPS, LOG, MOST, OnlyIn}
-use Rattle.scratch.specs.Words.{eventsIn, structIn}
+use Rattle.scratch.specs.Words.{eventIn, eventsFrom, eventsIn, structIn}
 use Rattle.scratch.proofs.Frames.{only-wider}
-use Rattle.scratch.proofs.Events.{struct-same, events-same}
+use Rattle.scratch.proofs.Events.{struct-same, event-same, same-from, events-same}
 use Rattle.scratch.proofs.Segments.{words-from}
 use Rattle.search.specs.Paths.{Kept}
 
@@ -58,6 +58,12 @@ module _ {base : ℕ} {w w' : List ℕ} (kept : Kept base w w') where
 
   pub struct-kept : (j : ℕ) → j < MOST → structIn w' j ≡ structIn w j
   struct-kept j h = struct-same between j h
+
+  pub event-kept : (j : ℕ) → j < MOST → eventIn w' j ≡ eventIn w j
+  event-kept j h = event-same between j h
+
+  pub from-kept : (j m : ℕ) → j + m ≤ MOST → eventsFrom w' j m ≡ eventsFrom w j m
+  from-kept j m h = same-from between j m h
 
   pub events-kept : (m : ℕ) → m ≤ MOST → eventsIn w' m ≡ eventsIn w m
   events-kept m h = events-same between m h

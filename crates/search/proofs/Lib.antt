@@ -9,3 +9,7 @@ pub mod Paths
 pub mod Resuming
 pub mod Explanations
 pub mod Continuing
+pub mod KnownStates
+pub mod Reaching
+pub mod FreeStretches
+pub mod Shortenings

@@ -2,27 +2,22 @@
 -- at it. They name machines and locations of the system, and are no more than the events allow for.
 use Prim.Native.Nat.{ℕ, suc, _≤_}
 use native.Mathlib.Omega.{arith}
-use mathlib.Core.Path.{_≡_, refl, sym, ap, _∙_, subst}
+use mathlib.Core.Path.{_≡_, refl, sym}
 use mathlib.Core.Logic.{⊎-elim}
-use mathlib.Core.List.{List, [], _∷_, _++_, map, cons≢nil, nil≢cons, head-eq-of-cons-eq, tail-eq-of-cons-eq}
-use mathlib.Core.List.{List·Memᴰ, List·Memᴰ·head, List·Memᴰ·tail, List·Memᴰ·not-nil}
-use mathlib.Core.List.{List·Memᴰ·cases-cons, List·Memᴰ·append-cases}
+use mathlib.Core.List.{List, [], _∷_, _++_, map, cons≢nil, head-eq-of-cons-eq, tail-eq-of-cons-eq}
+use mathlib.Core.List.{List·Memᴰ, List·Memᴰ·head, List·Memᴰ·tail, List·Memᴰ·not-nil, List·Memᴰ·append-cases}
 use lib.Dec.{T}
 use lib.Ieee.Fits.{eq→eqb}
 use lib.ListN.{length, length-append, length-map}
-use Rattle.model.specs.Cxl0.{Machine, Location, Topology, Event, Silent, Action, event, silent}
-use Rattle.model.specs.Cxl0.{named, silents}
+use Rattle.model.specs.Cxl0.{Machine, Location, Topology, Event, Action, event, silent, silents}
 use Rattle.model.specs.Schedule.{Step, silentOf, steps, weaveFrom, weave, inOrder}
 use Rattle.model.specs.OneLocation.{Local, silentAt, startAt, ownSteps}
-use Rattle.model.proofs.Tests.{and-i, and-l, and-r}
-use Rattle.model.proofs.Merge.{each}
-use Rattle.model.proofs.Expand.{start-inRange}
-use Rattle.model.proofs.Split.{own-named}
-use Rattle.model.proofs.Weaving.{events-weave, silents-weave}
-use Rattle.model.proofs.Potential.{rank-start}
 use Rattle.model.specs.Allowance.{allowance}
-use Rattle.model.proofs.Allowance.{rank-runs}
+use Rattle.model.specs.ShortestAt.{RunOf}
+use Rattle.model.proofs.Tests.{and-i}
+use Rattle.model.proofs.Weaving.{events-weave, silents-weave}
 use Rattle.model.proofs.Steps.{inOrder-append, silentAt-silentOf}
+use Rattle.model.proofs.RunBounds.{named-steps, runOf-named, runOf-few}
 use Rattle.entries.specs.declared.Site.{Site}
 use Rattle.rows.specs.Rows.{state}
 use Rattle.rows.specs.Sites.{Describes}
@@ -51,24 +46,6 @@ own-steps x (silent a ∷ acts) (p ∷ ps) e own =
     (eq→eqb (sym (own p (List·Memᴰ·head refl)))) in
     and-i (silentAt x a) (ownSteps x acts) here
     (own-steps x acts ps (tail-eq-of-cons-eq e) (λ q m. own q (List·Memᴰ·tail m)))
-
--- If the actions name machines and locations of the system, so does each step of the schedule.
-named-steps : (sys : Topology) (acts : List Action) (ps : List Step) → Of ps acts → T (each (named sys) acts)
-    → (p : Step) → List·Memᴰ p ps → T (named sys (silent (silentOf p)))
-unfolding each silents
-named-steps sys [] [] e t p m = absurd (List·Memᴰ·not-nil m)
-named-steps sys [] (q ∷ ps) e t p m = absurd (nil≢cons e)
-named-steps sys (event f ∷ acts) ps e t p m =
-    named-steps sys acts ps e (and-r (named sys (event f)) (each (named sys) acts) t) p m
-named-steps sys (silent a ∷ acts) [] e t p m = absurd (cons≢nil e)
-named-steps sys (silent a ∷ acts) (q ∷ ps) e t p m =
-    let here = and-l (named sys (silent a)) (each (named sys) acts) t in
-    let rest = and-r (named sys (silent a)) (each (named sys) acts) t in
-    let same = head-eq-of-cons-eq e in
-    ⊎-elim
-    (λ h. subst (λ (b : Silent). T (named sys (silent b))) (same ∙ ap silentOf (sym h)) here)
-    (named-steps sys acts ps (tail-eq-of-cons-eq e) rest p)
-    (List·Memᴰ·cases-cons m)
 
 -- ---- event by event
 
@@ -110,23 +87,20 @@ leading-more {s} {es} {ps} l e t is size runs =
 
 module _ (s : Site) (es : List Event) (ps : List Step) (z : Local) (l : Leading s es ps z)
     (system : Topology) (placed : Placed system s es) where
-  own-weave : T (ownSteps (s .location .0) (weave es ps))
-  own-weave = own-steps (s .location .0) (weave es ps) ps (silents-weave es ps) (l .own)
-
-  named-weave : (sys : Topology) → Placed sys s es → T (each (named sys) (weave es ps))
-  named-weave sys p =
-      let x = s .location .0 in
-      own-named sys x (p .wellFormed) (p .listed) (weave es ps) (startAt sys x) (start-inRange sys x)
-      own-weave (rw (events-weave es ps) (p .named)) (l .runs sys (p .describes) .runs)
+  -- Woven with the events it is a run at the site.
+  run : (sys : Topology) → Describes sys s → RunOf sys (s .location .0) es (startAt sys (s .location .0)) (weave es ps)
+  run sys d =
+      record {
+        of = events-weave es ps;
+        own = own-steps (s .location .0) (weave es ps) ps (silents-weave es ps) (l .own);
+        runs = l .runs sys d .runs;
+      }
 
   bounded : length ps ≤ allowance (s .location .0) es
   bounded =
-      let x = s .location .0 in
-      let owner = placed .wellFormed x (placed .listed) in
-      let all = rank-runs system x owner (weave es ps) (startAt system x)
-      (named-weave system placed) own-weave (l .runs system (placed .describes) .runs) in
-      let few = rw (silents-weave es ps, events-weave es ps) at all in
-      omega (arith, few, rank-start system x, length-map ps silentOf)
+      let here = run system (placed .describes) in
+      let few = runOf-few system (placed .wellFormed) (placed .listed) (placed .named) here in
+      omega (arith, rw (silents-weave es ps) at few, length-map ps silentOf)
 
   pub schedules : Schedules s es ps
   schedules =
@@ -135,6 +109,7 @@ module _ (s : Site) (es : List Event) (ps : List Step) (z : Local) (l : Leading 
         inOrder = l .order;
         early = l .early;
         few = bounded;
-        named = λ sys p. named-steps sys (weave es ps) ps (silents-weave es ps) (named-weave sys p);
+        named = λ sys p. named-steps sys (weave es ps) ps (silents-weave es ps)
+            (runOf-named sys (p .wellFormed) (p .listed) (p .named) (run sys (p .describes)));
         runs = λ sys d. l .runs sys d .runs;
       }

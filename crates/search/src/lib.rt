@@ -5,3 +5,4 @@
 // words, and there are at most 129 events, each known (operations 1 to 7, machines 1 to 6).
 mod backtracking;
 pub mod explaining;
+pub mod shortening;
