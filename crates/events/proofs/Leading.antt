@@ -10,7 +10,7 @@ use lib.ListN.{length, drop, drop-of-length-le}
 use lib.Seq.{drop-cons}
 use Rattle.model.specs.Cxl0.{Location, Event, Crash}
 use Rattle.model.proofs.Tests.{and-i}
-use Rattle.model.specs.OneLocation.{ownEvent}
+use Rattle.model.specs.OneLocation.{ownEvent, eventAt}
 use Rattle.events.specs.Thinning.{noneOwn, matters, Thins, keep, skip}
 use Rattle.events.proofs.Indices.{atIndex}
 
@@ -31,10 +31,11 @@ module _ (x : Location) (es : List Event) where
   none-own p h f = none-from (length es - p) p (omega arith) f
 
   module _ {begun : Bool} {kept : List Event} {indices : List ℕ} where
-    -- The event at p is kept.
-    pub keep-at : (p : ℕ) → p < length es → Thins x true (suc p) (drop (suc p) es) kept indices
+    -- The event at p, which concerns x, is kept.
+    pub keep-at : (p : ℕ) → p < length es → T (eventAt x (atIndex es p))
+        → Thins x true (suc p) (drop (suc p) es) kept indices
         → Thins x begun p (drop p es) (atIndex es p ∷ kept) (p ∷ indices)
-    keep-at p h t = rw (drop-cons es p (Crash 0) h) (keep t)
+    keep-at p h here t = rw (drop-cons es p (Crash 0) h) (keep here t)
 
     skips : (d p : ℕ) → p + d ≤ length es
         → ((i : ℕ) → p ≤ i → i < p + d → T (not (matters begun x (atIndex es i))))

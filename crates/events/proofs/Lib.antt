@@ -3,9 +3,10 @@ pub mod Indices
 pub mod NamedLocations
 pub mod Leading
 pub mod Thinning
+pub mod LogWords
 pub mod KeptEvents
 pub mod RetimedRuns
-pub mod LogWords
+pub mod EarlyPlaces
 pub mod LinkTurns
 pub mod Decodings
 pub mod Loadings

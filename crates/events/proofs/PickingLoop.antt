@@ -22,7 +22,7 @@ use Rattle.events.specs.Linking.{headOf, operationIn, nextOwnIn, nextCra
 use Rattle.events.specs.Linking.{firstFrom, Linked}
 use Rattle.events.specs.Picking.{copied, nearer, pickFrom, pickAfter}
 use Rattle.events.proofs.Indices.{atIndex, First, first-of, first-next, first-later}
-use Rattle.model.proofs.Locations.{own-no-crash, unconcerned}
+use Rattle.model.proofs.Locations.{own-no-crash, unconcerned, own-concerns, crash-everywhere}
 use Rattle.events.proofs.Leading.{none-own, keep-at, skip-to}
 use Rattle.events.proofs.Copies.{copied-frame, copied-events, copied-indices, copied-operations}
 use Rattle.events.proofs.Copies.{linked-event, linked-same}
@@ -87,7 +87,10 @@ module _ {es : List Event} {w : List ℕ} {x m : ℕ} (linked : Linked es w) (wi
       let L = take m es in
       let head = e ∙ linked .heads x h in
       let long = short es m (linked .few) within in
-      let names = first-of (ownEvent x) es (linked .few) 0 (omega arith) .passes (omega arith) in
+      let names : T (ownEvent x (atIndex es first)) =
+      rw head (first-of (ownEvent x) es (linked .few) 0 (omega arith) .passes (omega arith)) in
+      let here : T (eventAt x (atIndex L first)) =
+      rw (getD-take m es first (Crash 0) inside) (own-concerns x (atIndex es first) names) in
       record {
         linked = linked-same (copied-frame w first 0 (linked .room) (omega arith)) linked;
         within = within;
@@ -96,13 +99,13 @@ module _ {es : List Event} {w : List ℕ} {x m : ℕ} (linked : Linked es w) (wi
         few = omega arith;
         operations = copied-operations w first 0 (linked .room) (omega arith) (linked .operations first (omega arith))
             (λ j l. absurd (omega arith));
-        own = linked .owns x first (omega arith) (rw head names);
+        own = linked .owns x first (omega arith) names;
         crash = linked .crashes first (omega arith);
         thinned = λ kept indices thins. one-more first 0 inside (omega arith) kept indices
             (skip-to x L 0 first (omega arith) (omega arith)
             (λ i l k. none-before es m (linked .few) within (ownEvent x) 0 i (omega arith) l
             (omega arith) (omega arith))
-            (keep-at x L first (omega arith) thins));
+            (keep-at x L first (omega arith) here thins));
       }
 
 module _ {es : List Event} {w : List ℕ} {x m : ℕ} {p : Pick} (up : UpTo es x m p w) where
@@ -132,12 +135,12 @@ module _ {es : List Event} {w : List ℕ} {x m : ℕ} {p : Pick} (up : UpTo es x
     crash-first : First isCrash es (up .linked .few) (up .past) (p .crash)
     crash-first = rw (up .crash) (first-of isCrash es (up .linked .few) (up .past) inside)
 
-    -- An event at q is copied before which none from `past` on concerns x.
-    next-thinned : (q : ℕ) → up .past ≤ q → q < m → q ≤ p .own → q ≤ p .crash
+    -- An event at q is copied that concerns x, and before which none from `past` on does.
+    next-thinned : (q : ℕ) → up .past ≤ q → q < m → q ≤ p .own → q ≤ p .crash → T (eventAt x (atIndex es q))
         → (kept : List Event) (indices : List ℕ) → Thins x true (suc q) (drop (suc q) (take m es)) kept indices
         → Thinned x (take m es) (eventsIn (copied q (p .count) w) (p .count + 1) ++ kept)
         (indicesIn (copied q (p .count) w) (p .count + 1) ++ indices)
-    next-thinned q a b c d kept indices thins =
+    next-thinned q a b c d here kept indices thins =
         let L = take m es in
         let few = up .linked .few in
         let within = up .within in
@@ -150,7 +153,8 @@ module _ {es : List Event} {w : List ℕ} {x m : ℕ} {p : Pick} (up : UpTo es x
         (omega (arith, up .crash))) in
         one-more (up .linked) within q (p .count) b pick-room kept indices
         (up .thinned (atIndex L q ∷ kept) (q ∷ indices)
-        (skip-to x L (up .past) q a (omega arith) apart (keep-at x L q (omega arith) thins)))
+        (skip-to x L (up .past) q a (omega arith) apart
+        (keep-at x L q (omega arith) (rw (getD-take m es q (Crash 0) b) here) thins)))
 
     -- A crash that comes before the next event that names x is copied.
     pick-crash : p .crash < p .own
@@ -173,7 +177,8 @@ module _ {es : List Event} {w : List ℕ} {x m : ℕ} {p : Pick} (up : UpTo es x
               (up .linked .operations q (omega arith)) (up .operations);
           own = up .own ∙ sym later;
           crash = up .linked .crashes q (omega arith);
-          thinned = next-thinned q after (omega arith) (omega arith) (omega arith);
+          thinned = next-thinned q after (omega arith) (omega arith) (omega arith)
+              (crash-everywhere x (atIndex es q) (crash-first .passes (omega arith)));
         }
 
     -- The next event that names x is copied, where no crash comes before it.
@@ -198,7 +203,7 @@ module _ {es : List Event} {w : List ℕ} {x m : ℕ} {p : Pick} (up : UpTo es x
               (up .linked .operations q (omega arith)) (up .operations);
           own = up .linked .owns x q (omega arith) names;
           crash = up .crash ∙ sym later ∙ next;
-          thinned = next-thinned q after more (omega arith) h;
+          thinned = next-thinned q after more (omega arith) h (own-concerns x (atIndex es q) names);
         }
 
     -- One event more is copied.

@@ -1,4 +1,4 @@
--- Steps of the kept events become steps of the log: each word's count becomes the index of an event.
+-- Steps of the kept events become steps of the log: each word's count becomes that of a place right after an event.
 use Prim.Native.Nat.{ℕ, zero, suc, _+_, _*_, _-_, _/_, _%_, _≤_, _<_}
 use native.Mathlib.Nat.{le-of-suc-le-suc, add-zero, zero-add, div-div-eq-div-mul}
 use native.Mathlib.Omega.{arith}
@@ -8,12 +8,13 @@ use lib.ListN.{length, getD, take, drop, set}
 use lib.Seq.{slice-empty, take-suc, take-suc-set, drop-append-le, length-take-le}
 use Rattle.model.specs.Schedule.{Step}
 use Rattle.model.specs.Words.{stepOfWord}
-use Rattle.scratch.specs.Layout.{EVENTS, STEPS}
+use Rattle.scratch.specs.Layout.{EVENTS, STEPS, MOST}
 use Rattle.scratch.specs.Words.{countOf, LOCATION, INDEX}
 use Rattle.scratch.proofs.Frames.{only-none, only-set, only-then, only-wider, getD-below, getD-above}
-use Rattle.events.specs.Thinning.{retimed}
+use Rattle.events.specs.Thinning.{placeAfter, retimed}
 use Rattle.events.specs.Linking.{indexIn, indicesFrom, indicesIn}
-use Rattle.events.specs.Retiming.{wordsBetween, Retimable, Retimed, withCount, WordRetimed}
+use Rattle.events.specs.Retiming.{wordsBetween, Retimable, Retimed, withCount}
+use Rattle.events.specs.Retiming.{indexBefore, WordRetimed}
 
 -- ---- one word
 
@@ -46,9 +47,9 @@ indices-at w k t h = rw (zero-add t) at (indices-from w 0 t k h)
 
 -- One step more at the end.
 retimed-more : (indices : List ℕ) (ps : List Step) (p : Step)
-    → retimed indices (ps ++ p ∷ []) ≡ retimed indices ps ++ withCount (getD indices (p .before) 0) p ∷ []
+    → retimed indices (ps ++ p ∷ []) ≡ retimed indices ps ++ withCount (placeAfter indices (p .before)) p ∷ []
 unfolding retimed
-retimed-more indices ps p = map-append (λ p. withCount (getD indices (p .before) 0) p) ps (p ∷ [])
+retimed-more indices ps p = map-append (λ p. withCount (placeAfter indices (p .before)) p) ps (p ∷ [])
 
 -- One word more at the end, and the same with that word set.
 module _ (from j : ℕ) (w : List ℕ) (order : from ≤ j) (inside : STEPS + j < length w) where
@@ -81,9 +82,22 @@ module _ {k from to : ℕ} {w : List ℕ} (can : Retimable k from to w) {j : ℕ
   next-kept : getD w' (STEPS + j) 0 ≡ getD w (STEPS + j) 0
   next-kept = getD-above (so-far .frame) (STEPS + j) (omega arith)
 
-  -- Its count is that of a kept event.
-  pub next-count : countOf (getD w' (STEPS + j) 0) < k
-  next-count = rw next-kept (can .counts j order more)
+  -- A kept event is before its step.
+  pub next-count : 0 < countOf (getD w' (STEPS + j) 0)
+  next-count = rw next-kept (can .counts j order more .0)
+
+  -- That event's index is as it was.
+  index-kept : indexBefore w' (getD w' (STEPS + j) 0) ≡ indexBefore w (getD w (STEPS + j) 0)
+  index-kept =
+      let t = countOf (getD w (STEPS + j) 0) - 1 in
+      let count = can .counts j order more in
+      let same = getD-below (so-far .frame) (EVENTS + 2 * t) (omega (arith, count, can .few)) in
+      rw next-kept (ap (λ (word : ℕ). word / INDEX % 256) same)
+
+  pub next-index : indexBefore w' (getD w' (STEPS + j) 0) < MOST
+  next-index =
+      let count = can .counts j order more in
+      rw index-kept (can .indices (countOf (getD w (STEPS + j) 0) - 1) (omega (arith, count)))
 
   -- One word more.
   pub retimed-next : (r : ℕ) → WordRetimed w' (getD w' (STEPS + j) 0) r
@@ -93,12 +107,10 @@ module _ {k from to : ℕ} {w : List ℕ} (can : Retimable k from to w) {j : ℕ
       let v = getD w (STEPS + j) 0 in
       let indices = indicesIn w k in
       let old = wordsBetween from j w in
-      let small = can .counts j order more in
-      let kept = getD-below (so-far .frame) (EVENTS + 2 * countOf v) (omega (arith, small, can .few)) in
-      let index : indexIn EVENTS w' (countOf v) ≡ getD indices (countOf v) 0 =
-      ap (λ (word : ℕ). word / INDEX % 256) kept ∙ sym (indices-at w k (countOf v) small) in
-      let step : stepOfWord r ≡ withCount (getD indices (countOf v) 0) (stepOfWord v) =
-      (rw next-kept at new) ∙ ap (λ (n : ℕ). withCount n (stepOfWord v)) index in
+      let count = can .counts j order more in
+      let index = index-kept ∙ sym (indices-at w k (countOf v - 1) (omega (arith, count))) in
+      let step : stepOfWord r ≡ withCount (placeAfter indices (countOf v)) (stepOfWord v) =
+      new ∙ ap₂ (λ (n u : ℕ). withCount (n + 1) (stepOfWord u)) index next-kept in
       let inside : STEPS + j < length w = omega (arith, can .room, can .short) in
       let before = ap (map stepOfWord) (words-more from j w order inside)
       ∙ map-append stepOfWord old (v ∷ []) in

@@ -8,7 +8,7 @@ use mathlib.Core.List.{List, [], _∷_}
 use lib.Dec.{T, eqb}
 use Rattle.model.specs.Cxl0.{Location, Value, Topology, owner, initial}
 use Rattle.model.specs.Cxl0.{Event, Crash, SetCrash}
-use Rattle.model.specs.Cxl0.{Propagate, WriteBack, event}
+use Rattle.model.specs.Cxl0.{Silent, Propagate, WriteBack, event, silent}
 use Rattle.model.specs.Sharers.{has}
 use Rattle.model.specs.OneLocation.{Local, locationOf, siteOf, clearsSite, eventAt, silentAt, concerns, enabledAt}
 use Rattle.model.specs.OneLocation.{crashedAt, effect, possibleAt, nextAt}
@@ -72,16 +72,16 @@ module _ (sys : Topology) (x : Location) where
   -- ---- silent steps
 
   -- Where no machine holds a copy, x has no silent step.
-  quiet : {s t : Local} → Silently sys x s t → s .code ≡ 0 → t ≡ s
+  pub no-step : (a : Silent) (s : Local) → s .code ≡ 0 → ¬ T (enabledAt (siteOf sys x) (silent a) s)
   unfolding enabledAt siteOf
-  quiet still z = refl
-  quiet (step {s} (Propagate i y) p r) z =
-      let other : Bool = not (eqb i (owner sys x)) in
-      let q = and-r (silentAt x (Propagate i y)) (other && has i (s .code)) p in
-      absurd (has→some i (s .code) (and-r other (has i (s .code)) q) z)
-  quiet (step {s} (WriteBack y) p r) z =
-      let k = owner sys x in
-      absurd (has→some k (s .code) (and-r (silentAt x (WriteBack y)) (has k (s .code)) p) z)
+  no-step (Propagate i y) s none t =
+      has→some i (s .code) (and-r (not (eqb i (owner sys x))) (has i (s .code)) t) none
+  no-step (WriteBack y) s none t = has→some (owner sys x) (s .code) t none
+
+  quiet : {s t : Local} → Silently sys x s t → s .code ≡ 0 → t ≡ s
+  quiet still none = refl
+  quiet (step {s} a t r) none =
+      absurd (no-step a s none (and-r (silentAt x a) (enabledAt (siteOf sys x) (silent a) s) t))
 
   -- ---- runs
 
@@ -125,7 +125,7 @@ thins-run : (sys : Topology) {x : Location} {begun : Bool} {n : ℕ} {es kept : 
     → Thins x begun n es kept indices → (s : Local) → From sys x begun s
     → HasRunAt sys x es s ↔ HasRunAt sys x kept s
 thins-run sys {x} (rest {es} t) s from = (λ r. has-run-nil sys x s, λ r. none-run sys x es t s)
-thins-run sys {x} (keep {e} {es} {kept} h) s from = (
+thins-run sys {x} (keep {e} {es} {kept} here h) s from = (
   λ r.
       let f = has-run-cons sys x e es s .0 r in
       let more = thins-run sys h (nextAt sys x (event e) (f .0)) tt .0 (f .3) in

@@ -1,4 +1,4 @@
-// The counts of kept events in the words of steps, made indices of the log.
+// The counts of kept events in the words of steps, made counts of the log's events.
 use scratch::EVENTS;
 use scratch::INDEX;
 use scratch::STEPS;
@@ -6,16 +6,16 @@ ghost use Prim.Native.Nat.{_≤_, _<_};
 ghost use lib.ListN.{length};
 ghost use Rattle.scratch.specs.Layout.{WORDS, MOST};
 ghost use Rattle.scratch.specs.Words.{countOf};
-ghost use Rattle.events.specs.Retiming.{Retimable, Retimed, WordRetimed};
+ghost use Rattle.events.specs.Retiming.{Retimable, Retimed, indexBefore, WordRetimed};
 
-// The word of a step, with the index of the kept event that comes next for the count of those before.
+// The word of a step, placed right after the kept event before it: that event's index, plus 1, for the count.
 fn retimed_word(w: &[u64], v: u64) -> u64
-    requires { ⌜ (WORDS ≤ length (now w)) × (countOf v < MOST) ⌝ }
+    requires { ⌜ (WORDS ≤ length (now w)) × (0 < countOf v) × (indexBefore (now w) v < MOST) ⌝ }
     ensures { λ r. ⌜ WordRetimed (now (w .entry)) v r ⌝ }
 {
     let count = v % 256;
-    let index = w[EVENTS + 2 * (count as usize)] / INDEX % 256;
-    v - count + index
+    let index = w[EVENTS + 2 * (count as usize - 1)] / INDEX % 256;
+    v - count + (index + 1)
 }
 
 // Retimes the steps from number `from` to number `to`, the second not included, by the indices of the kept

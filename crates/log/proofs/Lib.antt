@@ -21,5 +21,6 @@ pub mod Unique
 pub mod Systems
 pub mod ShortRows
 pub mod OneForm
+pub mod Owned
 pub mod Lengths
 pub mod Bounded

@@ -1,13 +1,13 @@
--- Once every location was visited: the first impossible event, or a schedule of all events.
+-- Once every location was visited: the first impossible event, or the shortest schedule of all events.
 use Prim.Native.Nat.{ℕ, suc, _+_, _≤_, _<_}
 use native.Mathlib.Omega.{arith}
 use native.Mathlib.Nat.{le-of-suc-le-suc}
 use mathlib.Core.Path.{_≡_}
 use mathlib.Core.List.{List}
-use lib.Dec.{T}
 use lib.ListN.{length, take, drop, length-map}
-use Rattle.model.specs.Cxl0.{Topology, WellFormed, Event, Run, HasRun, FirstImpossible}
-use Rattle.model.specs.Schedule.{Step, weave, inOrder}
+use Rattle.model.specs.Cxl0.{Topology, WellFormed, Event, HasRun, FirstImpossible}
+use Rattle.model.specs.Schedule.{Step}
+use Rattle.model.specs.Shortest.{Shortest}
 use Rattle.model.specs.Meaning.{topologyOf}
 use Rattle.model.specs.Words.{stepOfWord}
 use Rattle.model.specs.declared.Topology as topology
@@ -20,7 +20,7 @@ use Rattle.scratch.specs.Words.{wordsAt, stepsAt}
 use Rattle.scratch.proofs.Frames.{only-then, only-wider}
 use Rattle.scratch.proofs.Events.{events-length}
 use Rattle.sorting.specs.Ordering.{ordered}
-use Rattle.sorting.proofs.Ordering.{ordered-run, ordered-inOrder}
+use Rattle.sorting.proofs.ShortestMerge.{ordered-shortest}
 use Rattle.sorting.specs.SortedWords.{Listed, Ordered}
 use Rattle.sorting.proofs.SortedWords.{listed-steps, ordered-steps}
 use Rattle.events.specs.Linking.{logged}
@@ -29,7 +29,7 @@ use Rattle.weighing.specs.Weighing.{Weighable, Finds, Concluded}
 use Rattle.weighing.specs.Visiting.{Visited}
 use Rattle.weighing.specs.declared.Weighed.{Weighed}
 use Rattle.weighing.specs.declared.visiting.Progress.{Progress}
-use Rattle.weighing.proofs.Gathering.{gathered-few}
+use Rattle.weighing.proofs.Gathering.{gathered-few, gathered-before}
 
 -- If the first m events have a run and one more have none, that one is the first impossible.
 first-impossible : (sys : Topology) (es : List Event) (m : ℕ) → m < length es
@@ -77,7 +77,7 @@ module _ {t : topology.Topology} {n : ℕ} {w : List ℕ} (can : Weighable t n w
       let next : m + 1 ≡ suc m = omega arith in
       record { frame = v .frame; few = omega arith; finds = rw next (ends-first h) }
 
-  -- All events have a run: the list has the schedules of all locations.
+  -- All events have a run: the list has the shortest schedules of all locations.
   module _ (all : n ≤ m) where
     everything : m ≡ length es
     everything = omega (arith, v .tried .most, size)
@@ -95,7 +95,7 @@ module _ {t : topology.Topology} {n : ℕ} {w : List ℕ} (can : Weighable t n w
     pub steps-listed : Listed (p .steps) n w'
     steps-listed =
         listed-steps room (v .tried .few) (omega (arith, size, can .linked .few))
-        (λ q i. rw size at (gathered .before q i))
+        (λ q i. rw size at (gathered-before sys es gathered q i))
 
     module _ {out : List ℕ} (sorted : Ordered (p .steps) n w' out) where
       abbrev steps : List Step
@@ -104,16 +104,13 @@ module _ {t : topology.Topology} {n : ℕ} {w : List ℕ} (can : Weighable t n w
       same : steps ≡ ordered n (stepsAt STEPS (p .steps) w')
       same = ordered-steps sorted
 
-      run : Run sys (weave es steps)
-      run =
-          let each = ordered-run sys wellFormed es (stepsAt STEPS (p .steps) w') (can .named) (gathered .named)
-          (λ x l. gathered .runs x (listed-below t x l)) in
-          rw same (rw size at each)
+      shortest : Shortest sys es steps
+      shortest =
+          let all = ordered-shortest sys wellFormed es (stepsAt STEPS (p .steps) w') (can .named) (gathered .named)
+          (gathered .rise) (λ x l. gathered .shortest x (listed-below t x l)) in
+          rw same (rw size at all)
 
-      order : T (inOrder 0 (length es) steps)
-      order = rw (same, size) (ordered-inOrder n (stepsAt STEPS (p .steps) w'))
-
-      -- In order, its steps make a run of the events.
+      -- In order, its steps are the shortest schedule of the events.
       pub concluded-allowed : Concluded t n w (Weighed.Allowed (p .steps)) out
       unfolding Finds
       concluded-allowed =
@@ -122,5 +119,5 @@ module _ {t : topology.Topology} {n : ℕ} {w : List ℕ} (can : Weighable t n w
           record {
             frame = only-then (v .frame) low;
             few = omega (arith, gathered-few sys es gathered, long, counted, size);
-            finds = (order, run);
+            finds = shortest;
           }

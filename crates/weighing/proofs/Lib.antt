@@ -1,7 +1,6 @@
 pub mod Described
 pub mod KnownEvents
 pub mod Gathering
-pub mod RetimedSchedules
 pub mod Extending
 pub mod Visits
 pub mod AllVisits

@@ -2,20 +2,21 @@
 use Prim.Native.Nat.{ℕ, suc, _+_, _*_, _/_, _%_, _≤_, _<_}
 use native.Mathlib.Nat.{le-refl, le-of-suc-le-suc, eq-or-lt-of-le}
 use native.Mathlib.Omega.{arith}
-use mathlib.Core.Path.{_≡_, refl, sym, ap, _∙_, subst}
+use mathlib.Core.Path.{_≡_, sym, ap, _∙_, subst}
 use mathlib.Core.Logic.{⊎-elim}
-use mathlib.Core.Bool.{not}
-use mathlib.Core.List.{List, [], _++_, map, map-append, append-nil, List·Memᴰ·not-nil}
+use mathlib.Core.List.{List, [], _++_, map, map-append, append-nil}
 use lib.Dec.{T}
 use lib.ListN.{length, getD, take, drop, length-take, length-append, length-map}
 use lib.Seq.{take-all, take-take}
-use Rattle.model.specs.Cxl0.{Location, Topology, owner, initial, isPersistent, WellFormed, Event, event, allNamed}
-use Rattle.model.specs.Schedule.{Step, weave, weaveFrom, steps, inOrder}
-use Rattle.model.specs.OneLocation.{siteOf, startAt, HasRunAt, runsAt}
+use Rattle.model.specs.Cxl0.{Location, Topology, WellFormed, Event, event, allNamed}
+use Rattle.model.specs.Schedule.{Step}
+use Rattle.model.specs.OneLocation.{startAt, HasRunAt}
+use Rattle.model.specs.ShortestAt.{ShortestAt}
 use Rattle.model.specs.Meaning.{topologyOf}
 use Rattle.model.specs.Words.{stepOfWord}
 use Rattle.model.specs.declared.Topology as topology
 use Rattle.model.proofs.Gaps.{has-run-nil}
+use Rattle.model.proofs.Greedy.{shortest-nil}
 use Rattle.model.proofs.Limits.{within, listed-below}
 use Rattle.model.proofs.NamedEvents.{named-take}
 use Rattle.entries.specs.declared.Site.{Site}
@@ -25,37 +26,23 @@ use Rattle.scratch.specs.Words.{INDEX, eventsFrom, eventsIn, wordsAt, stepsAt}
 use Rattle.scratch.proofs.Frames.{only-then, only-wider, getD-below}
 use Rattle.scratch.proofs.Segments.{words-after}
 use Rattle.scratch.proofs.Events.{events-take, events-length}
-use Rattle.walking.specs.Walks.{Placed, Schedules}
 use Rattle.search.specs.declared.explaining.Found.{Found}
-use Rattle.search.specs.Paths.{Explainable, Explained}
+use Rattle.search.specs.Paths.{Explainable}
+use Rattle.search.specs.Shortening.{Shortenable, Shortened}
 use Rattle.search.proofs.Prefixes.{has-run-at-prefix}
 use Rattle.events.specs.Thinning.{Thinned, retimed}
 use Rattle.events.specs.Linking.{indexIn, indicesIn, logged, Linked, Picked}
 use Rattle.events.specs.Retiming.{Retimable, Retimed}
 use Rattle.events.proofs.Retimings.{indices-at}
 use Rattle.events.proofs.Thinning.{thinned-run}
-use Rattle.events.proofs.KeptEvents.{thinned-take, thins-named}
+use Rattle.events.proofs.KeptEvents.{thinned-take, thins-indices, kept-concern, thins-named}
+use Rattle.events.proofs.EarlyPlaces.{thinned-shortest}
 use Rattle.weighing.specs.Gathering.{Gathered}
 use Rattle.weighing.specs.Visiting.{Visitable, Visited}
 use Rattle.weighing.specs.declared.visiting.Progress.{Progress}
-use Rattle.weighing.proofs.Described.{described}
 use Rattle.weighing.proofs.KnownEvents.{knowns}
 use Rattle.weighing.proofs.Gathering.{gathered-few, gathered-more}
 use Rattle.weighing.proofs.Extending.{Extended, kept-only, found-retimable, found-extended}
-use Rattle.weighing.proofs.RetimedSchedules.{thinned-schedules}
-
--- No steps are a schedule for no events.
-schedules-none : (s : Site) → Schedules s [] []
-unfolding inOrder weave weaveFrom steps runsAt
-schedules-none s =
-    record {
-      own = λ p i. absurd (List·Memᴰ·not-nil i);
-      inOrder = tt;
-      early = λ p i. absurd (List·Memᴰ·not-nil i);
-      few = omega arith;
-      named = λ sys placed p i. absurd (List·Memᴰ·not-nil i);
-      runs = λ sys d. tt;
-    }
 
 module _ {t : topology.Topology} {n x : ℕ} {p : Progress} {w : List ℕ} (can : Visitable t n x p w) where
   abbrev sys : Topology
@@ -129,54 +116,18 @@ module _ {t : topology.Topology} {n x : ℕ} {p : Progress} {w : List ℕ} (can 
     all-taken : m ≡ length es → take m es ≡ es
     all-taken e = take-all m es (omega arith)
 
-    module _ {s : Site} (here : s .location .0 ≡ x) (d : Describes sys s) where
-      placed-by : {l : List Event} → T (allNamed sys (map event l)) → Placed sys s l
-      placed-by names =
-          record { describes = d; wellFormed = wellFormed; listed = rw here (can .listed); named = names }
-
-      placed : Placed sys s es
-      placed = placed-by (can .weighable .named)
-
-      -- The picked events can be searched.
-      pub visit-explainable : Explainable s k (p .steps) w₁
-      visit-explainable =
-          record {
-            room = omega (arith, room, picked .frame .sized);
-            few = omega (arith, few-picked);
-            short = can .tried .few;
-            known = knowns sys few-machines w₁ k kept-named
-                (picked .operations es (can .weighable .linked) (can .tried .most));
-            system = sys;
-            placed = placed-by kept-named;
-          }
-
-      -- A schedule of the picked events, retimed, is one of the log's events, if these are all.
-      whole : m ≡ length es → {qs : List Step} → Schedules s (eventsIn w₁ k) qs
-          → Schedules s es (retimed (indicesIn w₁ k) qs)
-      whole e sch =
-          let all = rw (all-taken e, ← here) at thinned in
-          thinned-schedules all (sch .early) sch
-
-      gathered-here : m ≡ length es → {ps qs : List Step} → Gathered sys es x ps
-          → Schedules s (eventsIn w₁ k) qs → Gathered sys es (suc x) (ps ++ retimed (indicesIn w₁ k) qs)
-      gathered-here e g sch = rw (← here) (gathered-more sys es (rw (← here) at g) (whole e sch) placed)
+    -- The shortest schedule of the picked events, retimed, is that of the log's events, if these are all.
+    gathered-here : m ≡ length es → {ps qs : List Step} → Gathered sys es x ps → ShortestAt sys x (eventsIn w₁ k) qs
+        → Gathered sys es (suc x) (ps ++ retimed (indicesIn w₁ k) qs)
+    gathered-here e g new =
+        gathered-more sys es g (thinned-shortest sys (rw (all-taken e) at thinned) new)
+        wellFormed (can .listed) (can .weighable .named)
 
     -- ---- no event was picked
-
-    -- A site that describes x.
-    abbrev site : Site
-    site =
-        record {
-          location = record { 0 = x };
-          owner = record { 0 = owner sys x };
-          volatile = not (isPersistent sys x);
-          initial = initial sys x;
-        }
 
     pub visit-none : k ≡ 0 → Visited t n (suc x) w p w₁
     unfolding eventsFrom retimed
     visit-none e =
-        let d : Describes sys site = described t refl (can .weighable .limits) (can .listed) (unfold siteOf in refl) in
         let none : eventsIn w₁ k ≡ [] = rw e in
         let run : HasRunAt sys x (eventsIn w₁ k) (startAt sys x) = rw none (has-run-nil sys x (startAt sys x)) in
         record {
@@ -190,15 +141,40 @@ module _ {t : topology.Topology} {n x : ℕ} {p : Progress} {w : List ℕ} (can 
                 let old = can .tried .steps all in
                 let same : stepsAt STEPS (p .steps) w₁ ≡ stepsAt STEPS (p .steps) w ++ [] =
                 ap (map stepOfWord) list-same ∙ sym (append-nil (stepsAt STEPS (p .steps) w)) in
-                let sch : Schedules site (eventsIn w₁ k) [] = rw none (schedules-none site) in
-                (rw list-same (old .0), rw same (gathered-here refl d all (old .1) sch));
+                let new : ShortestAt sys x (eventsIn w₁ k) [] = rw none (shortest-nil sys x 0 (startAt sys x)) in
+                (rw list-same (old .0), rw same (gathered-here all (old .1) new));
           };
         }
+
+    -- ---- events were picked
+
+    -- They can be searched.
+    module _ {s : Site} (here : s .location .0 ≡ x) (d : Describes sys s) where
+      explainable : Explainable s k (p .steps) w₁
+      explainable =
+          record {
+            room = omega (arith, room, picked .frame .sized);
+            few = omega (arith, few-picked);
+            short = can .tried .few;
+            known = knowns sys few-machines w₁ k kept-named
+                (picked .operations es (can .weighable .linked) (can .tried .most));
+            system = sys;
+            placed = record {
+              describes = d;
+              wellFormed = wellFormed;
+              listed = rw here (can .listed);
+              named = kept-named;
+            };
+          }
+
+      pub visit-shortenable : Shortenable s k (p .steps) w₁
+      visit-shortenable =
+          record { explainable = explainable; here = λ j h. rw here (kept-concern w₁ k thinned j h) }
 
     -- ---- events were picked, and searched
 
     module _ {s : Site} (here : s .location .0 ≡ x) (d : Describes sys s) {found : Found} {w₂ : List ℕ}
-        (done : Explained s k (p .steps) w₁ found w₂) where
+        (done : Shortened s k (p .steps) w₁ found w₂) where
       abbrev good : ℕ
       good = found .events
 
@@ -214,17 +190,23 @@ module _ {t : topology.Topology} {n x : ℕ} {p : Progress} {w : List ℕ} (can 
       run-good : RunsHere (take good (eventsIn w₁ k))
       run-good = rw (events-take w₁ good k (done .most)) (rw here at (done .runs sys d))
 
-      -- The index of the first event that has no run.
-      visit-index : good < k → indexIn EVENTS w₂ good ≡ getD (indicesIn w₁ k) good 0
-      visit-index l =
-          let below = getD-below frame (EVENTS + 2 * good) (omega (arith, few-picked)) in
-          ap (λ (v : ℕ). v / INDEX % 256) below ∙ sym (indices-at w₁ k good l)
+      -- The indices of the picked events are as they were.
+      visit-index : (i : ℕ) → i < k → indexIn EVENTS w₂ i ≡ getD (indicesIn w₁ k) i 0
+      visit-index i l =
+          let below = getD-below frame (EVENTS + 2 * i) (omega (arith, few-picked)) in
+          ap (λ (v : ℕ). v / INDEX % 256) below ∙ sym (indices-at w₁ k i l)
+
+      -- They are indices of the log.
+      visit-indices : (i : ℕ) → i < k → indexIn EVENTS w₂ i < MOST
+      visit-indices i l =
+          let inside = thins-indices thinned i (rw (events-length w₁ k) l) .1 in
+          omega (arith, visit-index i l, inside, length-take m es, size, few)
 
       -- Not all of them have a run.
       pub visit-ends : good < k → (e : ℕ) → e ≡ indexIn EVENTS w₂ good
           → Visited t n (suc x) w (record { events = e; steps = p .steps }) w₂
       visit-ends l e at =
-          let index : getD (indicesIn w₁ k) good 0 ≡ e = sym (at ∙ visit-index l) in
+          let index : getD (indicesIn w₁ k) good 0 ≡ e = sym (at ∙ visit-index good l) in
           let cut = rw index at (thinned-take thinned good (rw (events-length w₁ k) l)) in
           let below : e < m = omega (arith, cut .0, length-take m es, can .tried .most) in
           let runs : RunsHere (take e es) =
@@ -264,20 +246,20 @@ module _ {t : topology.Topology} {n x : ℕ} {p : Progress} {w : List ℕ} (can 
               };
             }
 
-        -- All events have a run so far: the schedule gets the indices of the log.
+        -- All events have a run so far: the schedule gets its places in the log.
         module _ (all : n ≤ m) where
           everything : m ≡ length es
           everything = omega (arith, can .tried .most, size)
 
           pub visit-retimable : Retimable k (p .steps) (found .steps) w₂
-          visit-retimable = found-retimable (visit-explainable here d) few-picked done good-all
+          visit-retimable = found-retimable (explainable here d) done good-all visit-indices
 
           module _ {w₃ : List ℕ} (timed : Retimed k (p .steps) (found .steps) w₂ w₃) where
             abbrev more : ℕ
             more = found .steps
 
             new : Extended s k (p .steps) w₁ more w₃
-            new = found-extended (visit-explainable here d) few-picked done good-all timed
+            new = found-extended (explainable here d) done good-all timed
 
             abbrev before : List ℕ
             before = wordsAt STEPS (p .steps) w
@@ -297,7 +279,9 @@ module _ {t : topology.Topology} {n x : ℕ} {p : Progress} {w : List ℕ} (can 
                 let steps : stepsAt STEPS more w₃ ≡ stepsAt STEPS (p .steps) w ++ added =
                 ap (map stepOfWord) words ∙ map-append stepOfWord before (new .words)
                 ∙ ap (_++_ (stepsAt STEPS (p .steps) w)) (new .timed) in
-                rw steps (gathered-here here d everything old (new .schedules))
+                let at-x : ShortestAt sys x (eventsIn w₁ k) (new .steps) =
+                subst (λ (y : Location). ShortestAt sys y (eventsIn w₁ k) (new .steps)) here (new .shortest sys d) in
+                rw steps (gathered-here everything old at-x)
 
             pub visit-extends : Visited t n (suc x) w (record { events = m; steps = more }) w₃
             visit-extends =

@@ -19,7 +19,7 @@ use Rattle.weighing.specs.declared.visiting.Progress.{Progress}
 -- ---- all locations below x
 
 -- The first events have a run at each of them, and if these are not all, one more have none at some location. If
--- they are all, the list of steps has the schedules of these locations, and there is room for it.
+-- they are all, the list of steps has the shortest schedules of these locations, and there is room for it.
 pub record Tried (t : topology.Topology) (es : List Event) (x : ℕ) (p : Progress) (w : List ℕ) : Type 0 where
   pub most : p .events ≤ length es
   pub few : p .steps ≤ MOST-STEPS

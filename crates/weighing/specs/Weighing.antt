@@ -2,9 +2,8 @@
 use Prim.Native.Nat.{ℕ, _*_, _≤_}
 use mathlib.Core.List.{List, map}
 use lib.Dec.{T}
-use lib.ListN.{length}
-use Rattle.model.specs.Cxl0.{Topology, Event, event, allNamed, Run, FirstImpossible}
-use Rattle.model.specs.Schedule.{weave, inOrder}
+use Rattle.model.specs.Cxl0.{Topology, Event, event, allNamed, FirstImpossible}
+use Rattle.model.specs.Shortest.{Shortest}
 use Rattle.model.specs.Meaning.{topologyOf, withinLimits}
 use Rattle.model.specs.declared.Topology as topology
 use Rattle.scratch.specs.Layout.{SORTED, LOG, OnlyIn}
@@ -18,11 +17,10 @@ pub record Weighable (t : topology.Topology) (n : ℕ) (w : List ℕ) : Type 0 w
   pub limits : T (withinLimits t)
   pub named : T (allNamed (topologyOf t) (map event (logged n w)))
 
--- What was found of a list of events: the steps that stand in order from SORTED on make a run of them, or the event is
--- the first impossible one.
+-- What was found of a list of events: the steps from SORTED on are the shortest schedule of them, or the event is the
+-- first impossible one.
 unfoldable pub Finds : Topology → List Event → Weighed → List ℕ → Type 0
-Finds sys es (Weighed.Allowed steps) w =
-    T (inOrder 0 (length es) (stepsAt SORTED steps w)) × Run sys (weave es (stepsAt SORTED steps w))
+Finds sys es (Weighed.Allowed steps) w = Shortest sys es (stepsAt SORTED steps w)
 Finds sys es (Weighed.Impossible number) w = FirstImpossible sys es number
 
 -- The number of steps.

@@ -10,8 +10,8 @@ use sorting::order;
 use visiting::visit_all;
 ghost use Rattle.weighing.specs.Weighing.{Weighable, Concluded};
 
-// There is a run, and so many steps of it stand in order from SORTED on; or there is none, and the number of the first
-// impossible event, from 1.
+// There is a run, and the shortest schedule stands from SORTED on, so many steps; or there is none, and the number of
+// the first impossible event, from 1.
 pub enum Weighed {
     Allowed(usize),
     Impossible(usize),

@@ -5,7 +5,7 @@ use events::picking::pick_events;
 use events::retiming::retime;
 use model::Location;
 use model::Topology;
-use search::explaining::explain;
+use search::shortening::shorten;
 ghost use Prim.Native.Nat.{suc};
 ghost use mathlib.Core.Path.{_≡_};
 ghost use Rattle.model.specs.OneLocation.{siteOf};
@@ -14,13 +14,13 @@ ghost use Rattle.entries.specs.Entries.{siteMeant};
 ghost use Rattle.weighing.specs.Weighing.{Weighable};
 ghost use Rattle.weighing.specs.Visiting.{Visitable, Visited};
 
-// How many of the events have a run at each location so far, and how many steps the schedules of these have.
+// How many of the events have a run at each location so far, and how many steps their shortest schedules have.
 pub struct Progress {
     pub events: usize,
     pub steps: usize,
 }
 
-// Visits the location of a site: the events that go on from it, and the steps with those of its schedule.
+// Visits the location of a site: the events that go on from it, and the steps with those of its shortest schedule.
 fn visit(w: &mut [u64], t: Topology, site: Site, all: usize, p: Progress) -> Progress
     requires { ⌜ Visitable t all (site .location .0) p (now w)
         × (siteMeant site ≡ siteOf (topologyOf t) (site .location .0)) ⌝ }
@@ -30,7 +30,7 @@ fn visit(w: &mut [u64], t: Topology, site: Site, all: usize, p: Progress) -> Pro
     if count == 0 {
         return p;
     }
-    let found = explain(w, site, count, p.steps);
+    let found = shorten(w, site, count, p.steps);
     if found.events < count {
         return Progress {
             events: index(&*w, found.events),

@@ -4,7 +4,7 @@ use Prim.Native.Nat.{_-_, _≤_}
 use native.Mathlib.Omega.{arith}
 use mathlib.Core.Path.{_≡_}
 use Rattle.events.specs.Retiming.{Retimed}
-use Rattle.events.proofs.Retimings.{retimed-none, next-count, retimed-next}
+use Rattle.events.proofs.Retimings.{retimed-none, next-count, next-index, retimed-next}
 use Rattle.events.proofs.retiming.retime.Statement.{statement}
 use Rattle.events.proofs.retiming.retime.Tie as tie
 
@@ -34,7 +34,8 @@ retimed-word-requires c κs =
     let h = inside .before in
     let can = h .before .before .pre in
     let inv = h .loop .inv in
-    (omega arith, omega (arith, next-count can (inv .0) (inside .loop-test .taken) (inv .2)))
+    let taken = inside .loop-test .taken in
+    (omega arith, next-count can (inv .0) taken (inv .2), next-index can (inv .0) taken (inv .2))
 
 add-w : tie.Need-add-w Inv-loop μ-loop
 add-w c = omega arith
