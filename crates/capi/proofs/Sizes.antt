@@ -4,7 +4,7 @@ use native.Mathlib.Omega.{arith}
 use mathlib.Core.Path.{_≡_, refl, sym}
 use mathlib.Core.Bool.{Bool, true, false}
 use mathlib.Core.List.{List}
-use Rattle.log.specs.Records.{Records}
+use Rattle.log.specs.Records.{Records, systemOf}
 use Rattle.log.specs.Bytes.{Bytes}
 use Rattle.log.specs.Reading.{Log, accepted, rejected, readLog}
 use Rattle.log.proofs.Lengths.{longest}
@@ -15,8 +15,8 @@ use Rattle.converter.specs.Converting.{conversion}
 use Rattle.converter.proofs.Answered.{told-gives, conversion-most}
 use Rattle.verdict_file.specs.Files.{Verdict, allowed, impossible}
 use Rattle.verdict_file.proofs.Files.{length-impossible, short}
-use Rattle.replay.proofs.Demand2.{yes-few}
 use Rattle.judge.specs.Judging.{Outcome, refusal, told, verdict, areasFit, Right, JudgesLog, Judges}
+use Rattle.judge.proofs.RightVerdicts.{right-few}
 use Rattle.capi.specs.Packing.{RecordedFits, ConvertedFits, JudgedFits}
 
 -- A new count of used bytes is within the longest log, so it fits 32 bits.
@@ -33,20 +33,21 @@ converted-fits s out b (converting.gives len) e =
     omega (arith, conversion-most s out t b same, longest, long)
 converted-fits s out b (converting.Answer.refused number) e = tt
 
--- A right verdict has at most 256 steps and 1,544 bytes, so both fit 16 bits.
-told-fits : (s : List ℕ) (r : Records) (v : Verdict) → Right s r v → JudgedFits (told v)
-unfolding Right told
-told-fits s r (allowed ps) right =
-    let few = yes-few s ps right in
+-- The right verdict on a log has at most 256 steps and 1,544 bytes, so both fit 16 bits.
+told-fits : (s : List ℕ) (r : Records) → readLog s ≡ accepted r → (v : Verdict) → Right (systemOf r) (r .events) v
+    → JudgedFits (told v)
+unfolding told
+told-fits s r read (allowed ps) right =
+    let few = right-few s r read ps right in
     (omega arith, omega (arith, short (allowed ps) few))
-told-fits s r (impossible event) right = (omega arith, omega (arith, length-impossible event))
+told-fits s r read (impossible event) right = (omega arith, omega (arith, length-impossible event))
 
 -- So do those of what the judge answers to a log that is read.
-log-fits : (s : List ℕ) (l : Log) (out : List ℕ) (offset : ℕ) (scratch : List ℕ) (o : Outcome)
-    → JudgesLog s l out offset scratch o → JudgedFits (o .answer)
+log-fits : (s : List ℕ) (l : Log) → readLog s ≡ l → (out : List ℕ) (offset : ℕ) (scratch : List ℕ) (o : Outcome)
+    → JudgesLog l out offset scratch o → JudgedFits (o .answer)
 unfolding JudgesLog refusal verdict
-log-fits s (rejected number) out offset scratch o h = rw h tt
-log-fits s (accepted r) out offset scratch o (v, right, same) = rw same (told-fits s r v right)
+log-fits s (rejected number) read out offset scratch o h = rw h tt
+log-fits s (accepted r) read out offset scratch o (v, right, same) = rw same (told-fits s r read v right)
 
 -- So do those of every answer of the judge.
 pub judged-fits : (s out : List ℕ) (offset : ℕ) (scratch : List ℕ) (o : Outcome)
@@ -55,5 +56,5 @@ unfolding Judges refusal
 judged-fits s out offset scratch o h = go (areasFit out offset scratch) refl
   where
     go : (b : Bool) → areasFit out offset scratch ≡ b → JudgedFits (o .answer)
-    go true e = log-fits s (readLog s) out offset scratch o (rw (e, Judges) at h)
+    go true e = log-fits s (readLog s) refl out offset scratch o (rw (e, Judges) at h)
     go false e = let same : o ≡ refusal 1 out scratch = rw (e, Judges) at h in rw same tt

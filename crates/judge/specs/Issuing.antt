@@ -1,13 +1,9 @@
--- Issuing a verdict: which one is sound, its file is written, and the judge tells of it.
+-- Issuing the verdict that was found: its file is written, and the judge tells of it.
 use Prim.Native.Nat.{ℕ, _+_, _≤_, _<_}
 use mathlib.Core.Path.{_≡_}
 use mathlib.Core.List.{List}
-use lib.Dec.{T}
 use lib.ListN.{length}
-use Rattle.model.specs.Cxl0.{Topology, Event, Run, FirstImpossible}
-use Rattle.model.specs.Schedule.{weave}
 use Rattle.verdict_file.specs.Files.{Verdict, allowed, impossible}
-use Rattle.verdict_file.specs.Fitting.{scheduleFits}
 use Rattle.verdict_file.specs.Answers as written
 use Rattle.verdict_file.specs.Writing.{answer, output}
 use Rattle.scratch.specs.Layout.{SORTED}
@@ -15,12 +11,6 @@ use Rattle.scratch.specs.Words.{stepsAt}
 use Rattle.weighing.specs.declared.Weighed.{Weighed}
 use Rattle.judge.specs.Judging.{Answer, refused, answerOf, told}
 use Rattle.judge.specs.declared.Judged.{Judged}
-
--- A verdict is sound for a list of events: its schedule fits them and makes a run of them, or its event is the first
--- impossible one.
-unfoldable pub Sound : Topology → List Event → Verdict → Type 0
-Sound sys es (allowed ps) = T (scheduleFits sys (length es) ps) × Run sys (weave es ps)
-Sound sys es (impossible event) = FirstImpossible sys es event
 
 -- The verdict that was found, with the steps that stand in order from SORTED on.
 abbrev pub verdictOf : Weighed → List ℕ → Verdict

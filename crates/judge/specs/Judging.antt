@@ -5,15 +5,14 @@ use mathlib.Core.Bool.{Bool, true, false, _&&_}
 use mathlib.Core.List.{List}
 use lib.Dec.{leb}
 use lib.ListN.{length}
-use Rattle.model.specs.Cxl0.{FirstImpossible}
+use Rattle.model.specs.Cxl0.{Topology, Event, FirstImpossible}
+use Rattle.model.specs.Shortest.{Shortest}
 use Rattle.fields.specs.Refusals.{numberOf}
-use Rattle.log.specs.Records.{Records, systemOf}
+use Rattle.log.specs.Records.{systemOf}
 use Rattle.log.specs.Reading.{Log, accepted, rejected, readLog}
 use Rattle.verdict_file.specs.Files.{Verdict, allowed, impossible, fileOf}
 use Rattle.fields.specs.Put.{put}
 use Rattle.verdict_file.specs.Writing.{room}
-use Rattle.replay.specs.Replaying as replaying
-use Rattle.replay.specs.Replaying.{replayLog}
 use Rattle.scratch.specs.Clearing.{zeros}
 use Rattle.judge.specs.declared.Judged as judged
 
@@ -56,22 +55,22 @@ verdict v out offset scratch =
 unfoldable pub areasFit : (out : List ℕ) (offset : ℕ) (scratch : List ℕ) → Bool
 areasFit out offset scratch = room out offset && leb 4096 (length scratch)
 
--- A verdict is right for the log s with records r: replay of s with the file says yes, or the event is the first
--- impossible one. Only the schedule is left to the program.
-unfoldable pub Right : List ℕ → Records → Verdict → Type 0
-Right s r (allowed ps) = replayLog s (fileOf (allowed ps)) ≡ replaying.Answer.yes
-Right s r (impossible event) = FirstImpossible (systemOf r) (r .events) event
+-- A verdict is right for the events of a system: its schedule is their shortest one, or its event is the first
+-- impossible one. That leaves one verdict, and one schedule: of two, one has fewer steps or smaller numbers.
+unfoldable pub Right : Topology → List Event → Verdict → Type 0
+Right sys es (allowed ps) = Shortest sys es ps
+Right sys es (impossible event) = FirstImpossible sys es event
 
--- A refused log gets its refusal, an accepted one a right verdict.
-unfoldable pub JudgesLog : List ℕ → Log → (out : List ℕ) (offset : ℕ) (scratch : List ℕ) → Outcome → Type 0
-JudgesLog s (rejected number) out offset scratch o = o ≡ refusal number out scratch
-JudgesLog s (accepted r) out offset scratch o =
-    (v : Verdict) × Right s r v × (o ≡ verdict v out offset scratch)
+-- A refused log gets its refusal, an accepted one the right verdict.
+unfoldable pub JudgesLog : Log → (out : List ℕ) (offset : ℕ) (scratch : List ℕ) → Outcome → Type 0
+JudgesLog (rejected number) out offset scratch o = o ≡ refusal number out scratch
+JudgesLog (accepted r) out offset scratch o =
+    (v : Verdict) × Right (systemOf r) (r .events) v × (o ≡ verdict v out offset scratch)
 
 -- Areas that are too short give 1 before the log is read.
 unfoldable pub Judges : List ℕ → (out : List ℕ) (offset : ℕ) (scratch : List ℕ) → Outcome → Type 0
 Judges s out offset scratch o =
     elim (areasFit out offset scratch) [
       | false ↦ o ≡ refusal 1 out scratch
-      | true ↦ JudgesLog s (readLog s) out offset scratch o
+      | true ↦ JudgesLog (readLog s) out offset scratch o
     ]

@@ -1,5 +1,5 @@
-// Is there a run, and which? `judge` finds a schedule that explains a log, or names the first impossible event, and
-// writes the verdict file. specs/Judging.antt says what it answers and leaves.
+// Is there a run, and which? `judge` finds the shortest schedule that explains a log, or names the first impossible
+// event, and writes the verdict file. specs/Judging.antt says what it answers and leaves.
 mod issuing;
 
 use cursors::opening::open;
@@ -32,7 +32,7 @@ pub enum Judged {
 fn decide(log: &[u8], head: Head, out: &mut [u8], offset: usize, scratch: &mut [u64]) -> Judged
     requires { ⌜ areasFit (now out) offset (now scratch) ≡ true ⌝ }
     requires { ⌜ ((r : Records) × (readLog (now log) ≡ accepted r) × (headOf r ≡ head)) ⌝ }
-    ensures { λ r. ⌜ JudgesLog (now (log .entry)) (readLog (now (log .entry)))
+    ensures { λ r. ⌜ JudgesLog (readLog (now (log .entry)))
         (now (out .entry)) offset (now (scratch .entry))
         (outcomeOf r (now (out .exit)) (now (scratch .exit))) ⌝ }
 {

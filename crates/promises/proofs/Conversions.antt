@@ -1,7 +1,7 @@
 -- What the converter's contract says of its answer and of the output afterwards, and what a log and its form in the
 -- other edition have in common.
 use Prim.Native.Nat.{ℕ, _≤_, _<_}
-use mathlib.Core.Path.{_≡_, refl, sym, ap, _∙_, subst}
+use mathlib.Core.Path.{_≡_, refl, sym, ap, _∙_}
 use mathlib.Core.Logic.{_↔_}
 use mathlib.Core.Bool.{Bool, true, false}
 use mathlib.Core.List.{List, List·Memᴰ, _++_}
@@ -19,13 +19,12 @@ use Rattle.converter.specs.Converting.{Answer, gives, told, written, answerOf, 
 use Rattle.converter.specs.declared.Converted.{Converted}
 use Rattle.converter.proofs.Conversions.{form-else, too-large, other-read, there-and-back}
 use Rattle.converter.proofs.Answered.{short-output, enough-output, told-refused, told-gives, bytes-of-log}
-use Rattle.verdict_file.specs.Files.{Verdict, allowed, impossible, fileOf}
 use Rattle.replay.specs.Replaying.{replayLog}
 use Rattle.replay.proofs.Demand2.{same-replay}
 use Rattle.judge.specs.Judging as judging
-use Rattle.judge.specs.Judging.{Outcome, outcomeOf, refusal, areasFit, Right, JudgesLog, Judges}
+use Rattle.judge.specs.Judging.{Outcome, outcomeOf, areasFit, JudgesLog, Judges}
 use Rattle.judge.specs.declared.Judged.{Judged}
-use Rattle.promises.proofs.Judgements.{allowed-exactly, impossible-exactly}
+use Rattle.promises.proofs.Judgements
 
 -- ---- one call
 
@@ -91,24 +90,11 @@ module _ (s t : List ℕ) (r : Records) (b : Bytes s) (read : readLog s ≡ acce
   unfolding systemOf
   form-replayed = same-replay s t r same read form-read refl refl
 
-  -- What is right for one is right for the other,
-  right-there : (v : Verdict) → Right s r v → Right t same v
-  unfolding Right systemOf
-  right-there (allowed ps) right = form-replayed (fileOf (allowed ps)) ∙ right
-  right-there (impossible e) right = right
-
-  right-back : (v : Verdict) → Right t same v → Right s r v
-  unfolding Right systemOf
-  right-back (allowed ps) right = sym (form-replayed (fileOf (allowed ps))) ∙ right
-  right-back (impossible e) right = right
-
-  -- so that the judge's outcomes are the same: answer, file and areas.
+  -- What is right for one is right for the other, so that the judge's outcomes are the same: answer, file and areas.
   log-judged : (out : List ℕ) (offset : ℕ) (scratch : List ℕ) (o : Outcome)
-      → JudgesLog t (readLog t) out offset scratch o ↔ JudgesLog s (readLog s) out offset scratch o
-  unfolding JudgesLog
-  log-judged out offset scratch o =
-      rw (form-read, read)
-      (λ (v, right, e). (v, right-back v right, e), λ (v, right, e). (v, right-there v right, e))
+      → JudgesLog (readLog t) out offset scratch o ↔ JudgesLog (readLog s) out offset scratch o
+  unfolding JudgesLog systemOf
+  log-judged out offset scratch o = rw (form-read, read) (λ h. h, λ h. h)
 
   form-judged : (out : List ℕ) (offset : ℕ) (scratch : List ℕ) (o : Outcome)
       → Judges t out offset scratch o ↔ Judges s out offset scratch o
@@ -160,21 +146,26 @@ module _ (s out : List ℕ) (a : Converted) (out' : List ℕ) (call : Converts s
       (first : Judges s area offset scratch (outcomeOf j area' scratch')) (fit : areasFit area offset scratch ≡ true)
       (room : List ℕ) (at : ℕ) (words : List ℕ) (k : Judged) (room' words' : List ℕ)
       (second : Judges t room at words (outcomeOf k room' words')) (fits : areasFit room at words ≡ true) where
+    pub same-answer : judging.answerOf j ≡ judging.answerOf k
+    unfolding systemOf
+    same-answer =
+        let (r, read) = log in
+        Judgements.same-answer s area offset scratch j area' scratch' first fit r read
+        t room at words k room' words' second fits (inEdition (other (r .edition)) r) (converted-read r read) refl refl
+
+    pub same-file : (verdict event steps len : ℕ) → judging.answerOf j ≡ judging.gives verdict event steps len
+        → take len (drop offset area') ≡ take len (drop at room')
+    unfolding systemOf
+    same-file =
+        let (r, read) = log in
+        Judgements.same-file s area offset scratch j area' scratch' first fit r read
+        t room at words k room' words' second fits (inEdition (other (r .edition)) r) (converted-read r read) refl refl
+
     pub same-allowed : ((steps len : ℕ) × (judging.answerOf j ≡ judging.gives 1 0 steps len))
         ↔ ((steps len : ℕ) × (judging.answerOf k ≡ judging.gives 1 0 steps len))
-    unfolding systemOf
-    same-allowed =
-        let (r, read) = log in
-        let here = allowed-exactly s area offset scratch j area' scratch' first fit r read in
-        let there = allowed-exactly t room at words k room' words' second fits _ (converted-read r read) in
-        (λ e. there .1 (here .0 e), λ e. here .1 (there .0 e))
+    same-allowed = rw same-answer (λ e. e, λ e. e)
 
     pub same-impossible : (e : ℕ)
         → ((len : ℕ) × (judging.answerOf j ≡ judging.gives 0 e 0 len))
         ↔ ((len : ℕ) × (judging.answerOf k ≡ judging.gives 0 e 0 len))
-    unfolding systemOf
-    same-impossible e =
-        let (r, read) = log in
-        let here = impossible-exactly s area offset scratch j area' scratch' first fit r read e in
-        let there = impossible-exactly t room at words k room' words' second fits _ (converted-read r read) e in
-        (λ e. there .1 (here .0 e), λ e. here .1 (there .0 e))
+    same-impossible e = rw same-answer (λ e. e, λ e. e)

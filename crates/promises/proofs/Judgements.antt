@@ -1,15 +1,16 @@
 -- What the judge's contract says of its answer and of the areas that it was lent.
 use Prim.Native.Nat.{ℕ, _+_, _-_, _≤_}
 use native.Mathlib.Omega.{arith}
-use mathlib.Core.Path.{_≡_, sym, ap, _∙_}
+use mathlib.Core.Path.{_≡_, sym, ap, _∙_, subst₂}
 use mathlib.Core.Logic.{_↔_}
 use mathlib.Core.Bool.{true, false}
 use mathlib.Core.List.{List, _++_, append-assoc}
 use lib.Dec.{leb→le}
 use lib.ListN.{length, take, drop, length-append}
 use lib.Seq.{take-at, drop-at, length-take-le}
-use Rattle.model.specs.Cxl0.{HasRun}
-use Rattle.model.specs.Schedule.{Step}
+use Rattle.model.specs.Cxl0.{Topology, Event, Action, Run, HasRun, events, silents}
+use Rattle.model.specs.Schedule.{Step, weave, schedule}
+use Rattle.model.specs.Shortest.{Smaller, Shortest}
 use Rattle.model.proofs.Tests.{true→T}
 use Rattle.log.specs.Records.{Records, systemOf}
 use Rattle.log.specs.Reading.{accepted, rejected, readLog}
@@ -19,11 +20,11 @@ use Rattle.verdict_file.specs.Writing.{room}
 use Rattle.fields.proofs.Put.{put-there}
 use Rattle.replay.specs.Replaying as replaying
 use Rattle.replay.specs.Replaying.{replayLog}
-use Rattle.replay.proofs.Demand2.{yes-few}
 use Rattle.scratch.specs.Clearing.{zeros}
 use Rattle.judge.specs.Judging.{gives, refused, answerOf, told, Outcome, outcomeOf, refusal, verdict, areasFit}
 use Rattle.judge.specs.Judging.{Right, JudgesLog, Judges}
 use Rattle.judge.specs.declared.Judged.{Judged}
+use Rattle.judge.proofs.RightVerdicts.{right-few, right-replays, right-one, judges-one}
 use Rattle.judge.proofs.Deciding.{fit-out}
 use Rattle.promises.proofs.Verdicts as verdicts
 
@@ -56,7 +57,7 @@ module _ (s out : List ℕ) (offset : ℕ) (scratch : List ℕ) (j : Judged) (ou
   judge-short e = untouched 1 (rw (e, Judges) at judged)
 
   module _ (fit : areasFit out offset scratch ≡ true) where
-    by-log : JudgesLog s (readLog s) out offset scratch (outcomeOf j out' scratch')
+    by-log : JudgesLog (readLog s) out offset scratch (outcomeOf j out' scratch')
     unfolding Judges
     by-log = rw (fit, Judges) at judged
 
@@ -66,14 +67,16 @@ module _ (s out : List ℕ) (offset : ℕ) (scratch : List ℕ) (j : Judged) (ou
     judge-refused number e = untouched number (rw e at by-log)
 
     module _ (r : Records) (read : readLog s ≡ accepted r) where
-      given : (v : Verdict) × Right s r v × (outcomeOf j out' scratch' ≡ verdict v out offset scratch)
+      given : (v : Verdict)
+          × Right (systemOf r) (r .events) v
+          × (outcomeOf j out' scratch' ≡ verdict v out offset scratch)
       unfolding JudgesLog
       given = rw read at by-log
 
       abbrev v : Verdict
       v = given .0
 
-      right : Right s r v
+      right : Right (systemOf r) (r .events) v
       right = given .1
 
       says : answerOf j ≡ told v
@@ -115,12 +118,12 @@ module _ (s out : List ℕ) (offset : ℕ) (scratch : List ℕ) (j : Judged) (ou
       )
 
       pub allowed-exactly : ((steps len : ℕ) × (answerOf j ≡ gives 1 0 steps len)) ↔ HasRun (systemOf r) (r .events)
-      allowed-exactly = rw says (verdicts.allowed-exactly s r read v right)
+      allowed-exactly = rw says (verdicts.allowed-exactly (systemOf r) (r .events) v right)
 
       pub impossible-exactly : (e : ℕ)
           → ((len : ℕ) × (answerOf j ≡ gives 0 e 0 len))
           ↔ (¬ HasRun (systemOf r) (take e (r .events)) × HasRun (systemOf r) (take (e - 1) (r .events)))
-      impossible-exactly e = rw says (verdicts.impossible-exactly s r read v right e)
+      impossible-exactly e = rw says (verdicts.impossible-exactly (systemOf r) (r .events) v right e)
 
       -- A verdict that says allowed, and its file.
       module _ (steps len : ℕ) (e : answerOf j ≡ gives 1 0 steps len) where
@@ -130,23 +133,42 @@ module _ (s out : List ℕ) (offset : ℕ) (scratch : List ℕ) (j : Judged) (ou
         bytes : take len (drop offset out') ≡ fileOf (allowed (found .0))
         bytes = ap from-offset (sym (found .3)) ∙ stands ∙ ap fileOf (found .1)
 
-        right-steps : Right s r (allowed (found .0))
+        right-steps : Right (systemOf r) (r .events) (allowed (found .0))
         right-steps = rw (found .1) at right
 
         pub allowed-replays : replayLog s (take len (drop offset out')) ≡ replaying.Answer.yes
-        unfolding Right
-        allowed-replays = rw bytes right-steps
+        allowed-replays = rw bytes (right-replays s r read (found .0) right-steps)
 
         pub step-count : (ps : List Step)
             × (take len (drop offset out') ≡ fileOf (allowed ps))
             × (length ps ≡ steps)
             × (steps ≤ 256)
-        unfolding Right
         step-count = (
           found .0,
           bytes,
           found .2,
-          omega (arith, found .2, yes-few s (found .0) right-steps),
+          omega (arith, found .2, right-few s r read (found .0) right-steps),
+        )
+
+        -- The steps are the shortest schedule.
+        shortest : Shortest (systemOf r) (r .events) (found .0)
+        unfolding Right
+        shortest = right-steps
+
+        pub allowed-fewest : (acts : List Action) → events acts ≡ r .events → Run (systemOf r) acts
+            → steps ≤ length (silents acts)
+        allowed-fewest acts of run = omega (arith, found .2, shortest .fewest acts of run)
+
+        pub allowed-smallest : (ps : List Step)
+            × (take len (drop offset out') ≡ fileOf (allowed ps))
+            × Run (systemOf r) (weave (r .events) ps)
+            × ((acts : List Action) → events acts ≡ r .events → Run (systemOf r) acts
+            → length (silents acts) ≡ steps → ¬ Smaller (schedule acts) ps)
+        allowed-smallest = (
+          found .0,
+          bytes,
+          shortest .run,
+          λ acts of run same. shortest .smallest acts of run (same ∙ sym (found .2)),
         )
 
       pub impossible-file : (e len : ℕ) → answerOf j ≡ gives 0 e 0 len
@@ -154,3 +176,49 @@ module _ (s out : List ℕ) (offset : ℕ) (scratch : List ℕ) (j : Judged) (ou
       impossible-file e len t =
           let (same, long) = verdicts.told-impossible v (sym says ∙ t) in
           ap from-offset (sym long) ∙ stands ∙ ap fileOf same
+
+-- Two calls for logs of the same system with the same events, each with areas that fit: the verdict is the same, so the
+-- answers are, and the files.
+module _ (s out : List ℕ) (offset : ℕ) (scratch : List ℕ) (j : Judged) (out' scratch' : List ℕ)
+    (first : Judges s out offset scratch (outcomeOf j out' scratch')) (fit : areasFit out offset scratch ≡ true)
+    (r : Records) (read : readLog s ≡ accepted r)
+    (t room : List ℕ) (at : ℕ) (words : List ℕ) (k : Judged) (room' words' : List ℕ)
+    (second : Judges t room at words (outcomeOf k room' words')) (fits : areasFit room at words ≡ true)
+    (q : Records) (reads : readLog t ≡ accepted q)
+    (system : systemOf q ≡ systemOf r) (all : q .events ≡ r .events) where
+  abbrev v₁ : Verdict
+  v₁ = v s out offset scratch j out' scratch' first fit r read
+
+  abbrev v₂ : Verdict
+  v₂ = v t room at words k room' words' second fits q reads
+
+  same-verdict : v₁ ≡ v₂
+  same-verdict =
+      right-one (systemOf r) (r .events) v₁ v₂
+      (right s out offset scratch j out' scratch' first fit r read)
+      (subst₂ (λ (sys : Topology) (es : List Event). Right sys es v₂) system all
+      (right t room at words k room' words' second fits q reads))
+
+  pub same-answer : answerOf j ≡ answerOf k
+  same-answer =
+      says s out offset scratch j out' scratch' first fit r read
+      ∙ ap told same-verdict
+      ∙ sym (says t room at words k room' words' second fits q reads)
+
+  pub same-file : (verdict event steps len : ℕ) → answerOf j ≡ gives verdict event steps len
+      → take len (drop offset out') ≡ take len (drop at room')
+  same-file verdict event steps len e =
+      let here = stands s out offset scratch j out' scratch' first fit r read in
+      let there = stands t room at words k room' words' second fits q reads in
+      let long = verdicts.told-length v₁ (sym (says s out offset scratch j out' scratch' first fit r read) ∙ e) in
+      let long' = ap (λ (u : Verdict). length (fileOf u)) (sym same-verdict) ∙ long in
+      (rw long at here) ∙ ap fileOf same-verdict ∙ sym (rw long' at there)
+
+-- Two calls for the same log and the same areas leave the same.
+pub judge-one : (s out : List ℕ) (offset : ℕ) (scratch : List ℕ) (j k : Judged) (out' scratch' out'' scratch'' : List ℕ)
+    → Judges s out offset scratch (outcomeOf j out' scratch')
+    → Judges s out offset scratch (outcomeOf k out'' scratch'')
+    → (answerOf j ≡ answerOf k) × (out' ≡ out'') × (scratch' ≡ scratch'')
+judge-one s out offset scratch j k out' scratch' out'' scratch'' first second =
+    let same = judges-one s out offset scratch (outcomeOf j out' scratch') (outcomeOf k out'' scratch'') first second in
+    (ap (λ (o : Outcome). o .answer) same, ap (λ (o : Outcome). o .out) same, ap (λ (o : Outcome). o .scratch) same)

@@ -15,6 +15,7 @@ use Rattle.model.specs.Cxl0.{Machine, Location, Value, Topology, WellFormed, in
 use Rattle.model.specs.Cxl0.{after, Run, HasRun, events, silents, count, isStore, isLoad}
 use Rattle.model.specs.Earlier as earlier
 use Rattle.model.specs.Schedule.{Step, weave, schedule, inOrder}
+use Rattle.model.specs.Shortest.{Smaller}
 use Rattle.model.specs.MarkedLogs.{MarkedLog, logs}
 use Rattle.model.specs.MarkedLogs as marked
 use Rattle.model.proofs.Theorems
@@ -209,7 +210,7 @@ module _ (s out : List ℕ) (a : Converted) (out' : List ℕ) (call : Converts s
   pub converted-replayed : (f : List ℕ) → replayLog (take len out') f ≡ replayLog s f
   converted-replayed = Conversions.converted-replayed s out a out' call b len converted
 
-  -- and so does the judge: what it may answer and write is the same. Only the schedule is left to it in either.
+  -- and so does the judge: its outcome for the one is its outcome for the other.
   pub converted-judged : (area : List ℕ) (offset : ℕ) (scratch : List ℕ) (o : judging.Outcome)
       → Judges (take len out') area offset scratch o ↔ Judges s area offset scratch o
   converted-judged = Conversions.converted-judged s out a out' call b len converted
@@ -323,10 +324,33 @@ module _ (s out : List ℕ) (offset : ℕ) (scratch : List ℕ) (j : Judged) (ou
       × (steps ≤ 256)
   step-count = Judgements.step-count s out offset scratch j out' scratch' judged fit r read
 
+  -- Its schedule is the shortest: no run of the log's events, with any number of silent steps, anywhere, has fewer.
+  pub allowed-fewest : (steps len : ℕ) → answerOf j ≡ gives 1 0 steps len
+      → (acts : List Action) → events acts ≡ r .events → Run (systemOf r) acts → steps ≤ length (silents acts)
+  allowed-fewest = Judgements.allowed-fewest s out offset scratch j out' scratch' judged fit r read
+
+  -- The steps of the file make such a run, and of the runs with as few none has a schedule that is smaller at the first
+  -- difference, by its numbers: events before, location, machine (0 for a write-back).
+  pub allowed-smallest : (steps len : ℕ) → answerOf j ≡ gives 1 0 steps len
+      → (ps : List Step)
+      × (take len (drop offset out') ≡ fileOf (allowed ps))
+      × Run (systemOf r) (weave (r .events) ps)
+      × ((acts : List Action) → events acts ≡ r .events → Run (systemOf r) acts
+      → length (silents acts) ≡ steps → ¬ Smaller (schedule acts) ps)
+  allowed-smallest = Judgements.allowed-smallest s out offset scratch j out' scratch' judged fit r read
+
   -- The file of an impossible verdict names the event that the answer names.
   pub impossible-file : (e len : ℕ) → answerOf j ≡ gives 0 e 0 len
       → take len (drop offset out') ≡ fileOf (impossible e)
   impossible-file = Judgements.impossible-file s out offset scratch j out' scratch' judged fit r read
+
+-- So nothing is left to the program: two calls of `judge` on the same log, with areas of the same contents, give the
+-- same answer and leave the same bytes.
+pub judge-one : (s out : List ℕ) (offset : ℕ) (scratch : List ℕ) (j k : Judged) (out' scratch' out'' scratch'' : List ℕ)
+    → Judges s out offset scratch (outcomeOf j out' scratch')
+    → Judges s out offset scratch (outcomeOf k out'' scratch'')
+    → (answerOf j ≡ answerOf k) × (out' ≡ out'') × (scratch' ≡ scratch'')
+judge-one = Judgements.judge-one
 
 -- What `judge` answered to a log and to what `convert` made of it, with areas that fit.
 module _ (s out : List ℕ) (a : Converted) (out' : List ℕ) (call : Converts s out a out') (b : Bytes s) (len : ℕ)
@@ -336,7 +360,19 @@ module _ (s out : List ℕ) (a : Converted) (out' : List ℕ) (call : Converts s
     (room : List ℕ) (at : ℕ) (words : List ℕ) (k : Judged) (room' words' : List ℕ)
     (second : Judges (take len out') room at words (outcomeOf k room' words'))
     (fits : areasFit room at words ≡ true) where
-  -- The verdict is the same in both editions: allowed in one exactly where in the other, impossible at the same event.
+  -- The answer is the same in both editions, and so are the bytes of the file, wherever it was put.
+  pub same-answer : answerOf j ≡ answerOf k
+  same-answer =
+      Conversions.same-answer s out a out' call b len converted
+      area offset scratch j area' scratch' first fit room at words k room' words' second fits
+
+  pub same-file : (verdict event steps len : ℕ) → answerOf j ≡ gives verdict event steps len
+      → take len (drop offset area') ≡ take len (drop at room')
+  same-file =
+      Conversions.same-file s out a out' call b len converted
+      area offset scratch j area' scratch' first fit room at words k room' words' second fits
+
+  -- So the verdict is: allowed in one exactly where in the other, impossible at the same event.
   pub same-allowed : ((steps len : ℕ) × (answerOf j ≡ gives 1 0 steps len))
       ↔ ((steps len : ℕ) × (answerOf k ≡ gives 1 0 steps len))
   same-allowed =

@@ -1,24 +1,20 @@
 -- Demand 2: replay says yes if and only if the log and the schedule together are a CXL0 run of the whole
 -- system from empty caches and zeroed memories; otherwise it says how many events passed before the first
 -- thing not possible.
-use Prim.Native.Nat.{ℕ, _≤_}
-use native.Mathlib.Omega.{arith}
-use mathlib.Core.Path.{_≡_, refl, sym, ap, ap₂, _∙_}
+use Prim.Native.Nat.{ℕ}
+use mathlib.Core.Path.{_≡_, refl, sym, ap₂, _∙_}
 use mathlib.Core.Logic.{_↔_}
-use mathlib.Core.Bool.{_&&_}
 use mathlib.Core.List.{List}
 use mathlib.Core.Option.{Option, none, some, Option·none-ne-some}
-use lib.Dec.{T, leb, leb→le}
+use lib.Dec.{T}
 use lib.ListN.{length}
 use Rattle.model.specs.Cxl0.{Topology, start, Event, Run}
-use Rattle.model.specs.Schedule.{Step, weave, inOrder}
-use Rattle.model.proofs.Tests.{and-l}
+use Rattle.model.specs.Schedule.{Step, weave}
 use Rattle.log.specs.Records.{Records, systemOf}
 use Rattle.log.specs.Reading.{Log, accepted, rejected, readLog}
 use Rattle.log.proofs.Checks.{clash}
-use Rattle.verdict_file.specs.Files.{allowed, fileOf, stepsMost}
-use Rattle.verdict_file.specs.Fitting.{everyStepFits, scheduleFits}
-use Rattle.verdict_file.proofs.Files.{length-allowed}
+use Rattle.verdict_file.specs.Files.{allowed, fileOf}
+use Rattle.verdict_file.specs.Fitting.{scheduleFits}
 use Rattle.schedules.specs.Schedules.{readSchedule}
 use Rattle.schedules.proofs.Accepted.{accepts}
 use Rattle.replay.specs.Replaying.{Answer, replayed, withSchedule, withLog, replayLog}
@@ -133,17 +129,6 @@ pub written-yes : (s : List ℕ) (r : Records) (ps : List Step) → readLog s �
     → replayLog s (fileOf (allowed ps)) ≡ Answer.yes
 written-yes s r ps log fits run =
     yes-exactly s (fileOf (allowed ps)) .1 (r, ps, record { log = log; file = refl; fits = fits }, run)
-
--- A schedule whose file gets yes has at most 256 steps.
-pub yes-few : (s : List ℕ) (ps : List Step) → replayLog s (fileOf (allowed ps)) ≡ Answer.yes → length ps ≤ stepsMost
-unfolding scheduleFits
-yes-few s ps e =
-    let (r, qs, admitted, run) = yes-exactly s (fileOf (allowed ps)) .0 e in
-    let n = length (r .events) in
-    let short = leb (length qs) stepsMost in
-    let ordered = and-l (short && inOrder 0 n qs) (everyStepFits (systemOf r) qs) (admitted .fits) in
-    let few = leb→le (length qs) stepsMost (and-l short (inOrder 0 n qs) ordered) in
-    omega (arith, ap length (admitted .file), length-allowed ps, length-allowed qs, few)
 
 -- Logs of the same system with the same events are replayed alike, whatever the file.
 pub same-replay : (s t : List ℕ) (r q : Records) → readLog s ≡ accepted r → readLog t ≡ accepted q

@@ -12,8 +12,8 @@ use Rattle.cursors.proofs.Opens.{opens-accepted}
 use Rattle.scratch.specs.Clearing.{zeros}
 use Rattle.weighing.specs.Weighing.{Weighable}
 use Rattle.judge.specs.Issuing.{verdictOf}
-use Rattle.judge.proofs.Loading.{few-events, loadable, loads-weighable, loads-sound}
-use Rattle.judge.proofs.Soundness.{concluded-sound, concluded-issuable, sound-issued}
+use Rattle.judge.proofs.Loading.{few-events, loadable, loads-weighable, loads-right}
+use Rattle.judge.proofs.Soundness.{concluded-right, concluded-issuable, right-issued}
 use Rattle.judge.proofs.Deciding.{fit-out, fit-scratch, decided}
 use Rattle.judge.proofs.decide.Statement.{statement}
 use Rattle.judge.proofs.decide.Tie as tie
@@ -99,11 +99,11 @@ returns c =
     let (r, read, heads) = log-read in
     let loads = d .load .ensures in
     let found = verdictOf (g .weigh .result) (g .weigh .last .0) in
-    let sound = concluded-sound (weighable d) (few d) (g .weigh .result) (g .weigh .ensures) in
+    let right = concluded-right (g .weigh .result) (g .weigh .ensures) in
     let fits = fit-out (now (a .out)) (a .offset) (now (a .scratch)) fit in
-    let issued = sound-issued (weighable d) (few d) found sound fits (i .issue .ensures) in
+    let issued = right-issued (weighable d) (few d) found right fits (i .issue .ensures) in
     decided (log k) r read found
-    (loads-sound (log k) (bytes k) r read (a .head) heads (k .«open» .result) (opens k) loads found sound)
+    (loads-right (log k) (bytes k) r read (a .head) heads (k .«open» .result) (opens k) loads found right)
     (now (a .out)) (a .offset) (now (a .scratch)) (i .issue .result) issued
     (e .clear .ensures ∙ ap zeros (g .weigh .ensures .frame .sized ∙ loads .frame .sized))
 
