@@ -77,7 +77,7 @@ class Step(NamedTuple):
 class Verdict(NamedTuple):
     """Whether some choice of silent steps explains a log.
 
-    If it is allowed, `event` is 0 and `steps` are the silent steps of a run; if not, `event` is the first impossible
+    If it is allowed, `event` is 0 and `steps` are the silent steps of the shortest run; if not, `event` is the first impossible
     one, counted from 1. `file` is the verdict file."""
 
     allowed: bool

@@ -3,7 +3,7 @@ use crate::{judge_into, Judged, Refusal, Schedule, FILE_MOST, SCRATCH_LEAST};
 /// Whether some choice of silent steps explains a log.
 #[derive(Clone, Debug, PartialEq, Eq)]
 pub enum Verdict {
-    /// These do.
+    /// These do, and no fewer; of the schedules with as few, this is the smallest at the first difference.
     Allowed(Schedule),
     /// None does.
     Impossible {
