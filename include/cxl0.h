@@ -71,8 +71,8 @@ uint64_t cxl0_replay(const uint8_t *log, size_t log_len, const uint8_t *schedule
 
 /* Judges a log and writes the verdict file into `out` from `offset` on; outside the file `out` is as it was, and
  * `scratch` is all zero afterwards. An allowed log gets the shortest schedule: no run has fewer silent steps, and of
- * those with as few its numbers are smallest at the first difference. Bit 8: allowed, bits 16 to 23: the first impossible event, counted from 1, or 0,
- * 24 to 39: the number of silent steps, 40 to 55: the length of the file. */
+ * those with as few its numbers are smallest at the first difference. Bit 8: allowed, bits 16 to 23: the first
+ * impossible event, counted from 1, or 0, 24 to 39: the number of silent steps, 40 to 55: the length of the file. */
 uint64_t cxl0_judge(const uint8_t *log, size_t log_len, uint8_t *out, size_t out_len, size_t offset,
                     uint64_t *scratch, size_t scratch_len);
 

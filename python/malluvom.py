@@ -77,8 +77,9 @@ class Step(NamedTuple):
 class Verdict(NamedTuple):
     """Whether some choice of silent steps explains a log.
 
-    If it is allowed, `event` is 0 and `steps` are the silent steps of the shortest run; if not, `event` is the first impossible
-    one, counted from 1. `file` is the verdict file."""
+    If it is allowed, `event` is 0 and `steps` are the silent steps of the shortest run: no run has fewer, and of those
+    with as few it is the smallest at the first difference. If not, `event` is the first impossible one, counted from 1.
+    `file` is the verdict file."""
 
     allowed: bool
     event: int

@@ -1,11 +1,9 @@
 #!/usr/bin/env python3
-"""judge_reference.py: reads the judge's cases of crates/cases/stdin and prints what the program must print.
-judge_reference.py STDIN STDOUT: is STDOUT what it must print on STDIN, where any run of an allowed log will do? The
-exit status is 0 only where nothing is wrong.
+"""Reads the judge's cases of crates/cases/stdin from standard input and prints what the program must print.
 
 Each log is judged anew, from document 01 and requests W-201 to W-204, W-206 and W-211 alone: a location at a time,
 forward, with every state that its silent steps can reach. Its shortest schedule is found by what each state has to pay
-to the end, a location at a time too, since the states of all locations multiply. A schedule is replayed on the whole
+to the end, a location at a time too, since the states of all locations multiply. The schedule is replayed on the whole
 system."""
 import sys
 from functools import cache
@@ -203,22 +201,6 @@ def most_steps(records):
     return sum(2 if e[0] in (LSTORE, RSTORE, MSTORE, *STORE_OF) else e[0] == LOAD for e in records.events)
 
 
-def schedule(records, file):
-    """The steps of a file that says allowed; None where it has not that form or does not fit the log."""
-    if file[:5] != bytes.fromhex("1002000100") or file[-3:] != bytes.fromhex("040000") or len(file) % 6 != 2:
-        return None
-    steps, least = [], 0
-    for at in range(5, len(file) - 3, 6):
-        before, location, machine = file[at + 3:at + 6]
-        if file[at:at + 3] != bytes.fromhex("110300") or not least <= before <= len(records.events):
-            return None
-        if location >= len(records.owners) or machine > records.machines or machine == records.owners[location]:
-            return None
-        steps.append((before, location, machine))
-        least = before
-    return steps if len(steps) <= MOST_STEPS else None
-
-
 # What is printed of a case.
 
 AFTER_A_VERDICT = ["output outside the file as it was", "scratch all zero"]
@@ -250,57 +232,5 @@ def answers():
         print(*(answer(line) if line.startswith("j ") else [line]), sep="\n")
 
 
-# The same where any run of an allowed log will do.
-
-
-def wrong_allowed(records, name, printed):
-    """What is wrong with the lines of an allowed log, or None."""
-    if len(printed) != 5 or not printed[1].startswith("file "):
-        return "not the lines of a verdict"
-    file = bytes.fromhex(printed[1][5:])
-    steps = schedule(records, file)
-    if steps is None:
-        return "the file is no schedule of this log"
-    if not replays(records, steps):
-        return "the schedule is no run"
-    if len(steps) > most_steps(records):
-        return "more steps than twice the stores and once the loads"
-    if printed[0] != f"{name} allowed {len(steps)} {len(file)}":
-        return "not the verdict, the step count and the length of the file"
-    return None if printed[2:] == ["replay yes"] + AFTER_A_VERDICT else "not the lines that must follow the file"
-
-
-def wrong_case(line, printed):
-    expected = answer(line)
-    name, log, *_ = line.split(" ")
-    if expected[0].startswith(f"{name} allowed "):
-        return wrong_allowed(accepted(bytes.fromhex(log))[0], name, printed)
-    return None if printed == expected else f"expected {expected}"
-
-
-def lines_of(path):
-    with open(path, encoding="ascii") as text:
-        return text.read().split("\n")[:-1]
-
-
-def check():
-    cases = [line.removeprefix("j ") for line in lines_of(sys.argv[1])]
-    printed = lines_of(sys.argv[2])
-    names = {line.split(" ")[0] for line in cases}
-    starts = [n for n, line in enumerate(printed) if line.split(" ")[0] in names] + [len(printed)]
-    if len(starts) != len(cases) + 1 or starts[0] != 0:
-        sys.exit("not as many cases printed as there are lines")
-    wrongs = 0
-    for line, start, end in zip(cases, starts, starts[1:]):
-        if line.startswith("#"):
-            wrong = None if printed[start:end] == [line] else "a comment is not printed as it is"
-        else:
-            wrong = wrong_case(line, printed[start:end])
-        if wrong:
-            print(f"{line[:60]}: {wrong}")
-            wrongs += 1
-    sys.exit(wrongs > 0)
-
-
 if __name__ == "__main__":
-    answers() if len(sys.argv) == 1 else check()
+    answers()

@@ -157,8 +157,11 @@ module _ {k : Site} {s₀ : Segment} {w : List ℕ} {l : ℕ} {s : Segment} {t :
   pub cuts-inside : (s .reset ≢ NONE) ⊎ (clearsSite (eventIn w t) k ≡ false) → t < NONE → Cuts k s₀ w l s (suc t)
   cuts-inside other few =
       let grown = cuts .grown in
+      let noted : s .reset ≢ NONE → s .reset < t =
+      λ n. ⊎-elim (λ e. absurd (n e)) (λ r. r .1) (grown .resets)
+      in
       let keeps : t < s .reset → clearsSite (eventIn w t) k ≡ false =
-      λ h. ⊎-elim (λ n. ⊎-elim (λ e. absurd (n e)) (λ r. absurd (omega (arith, r .1))) (grown .resets)) (λ e. e) other
+      λ h. ⊎-elim (λ n. absurd (omega (arith, noted n))) (λ e. e) other
       in
       cuts-grown s (record { first = refl; code = refl; copy = refl })
       (record {

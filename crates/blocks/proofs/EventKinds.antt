@@ -1,4 +1,5 @@
--- What an event is to a segment: inside it, a store that begins the next one, or an event after which the state is known.
+-- What an event is to a segment: inside it, a store that begins the next one, or an event after which the state is
+-- known.
 use Prim.Native.Nat.{ℕ, _≤_, _<_}
 use native.Mathlib.Omega.{arith}
 use mathlib.Core.Path.{_≡_, refl, sym, ap₂, _∙_}
@@ -28,6 +29,9 @@ by-value P v u same differs f g =
     (λ t. let e = eqb→eq v u t in rw (eq-eqb v u e) (f e))
     (λ t. let n = ne-test v u t in rw (ne-eqb v u n) (g n))
 
+not-inner : (v u n : ℕ) → 0 < n → cond (eqb v u) n 5 ≢ 0
+not-inner v u n some = by-value (λ m. m ≢ 0) v u n 5 (λ e z. absurd (omega arith)) (λ d z. absurd (omega arith))
+
 -- An event of kind 0 stands inside a segment.
 pub inner-kind : (u : Value) (e : Event) → kindOf u e ≡ 0 → Inner u e
 unfolding kindOf Inner
@@ -39,9 +43,9 @@ inner-kind u (LFlush i x) = λ z. tt
 inner-kind u (RFlush i x) = λ z. tt
 inner-kind u (Crash i) = λ z. tt
 inner-kind u (SetCrash set) = λ z. tt
-inner-kind u (RMW L i x v w) = by-value (λ n. ¬ (n ≡ 0)) v u 2 5 (λ e z. absurd (omega arith)) (λ n z. absurd (omega arith))
-inner-kind u (RMW R i x v w) = by-value (λ n. ¬ (n ≡ 0)) v u 2 5 (λ e z. absurd (omega arith)) (λ n z. absurd (omega arith))
-inner-kind u (RMW M i x v w) = by-value (λ n. ¬ (n ≡ 0)) v u 4 5 (λ e z. absurd (omega arith)) (λ n z. absurd (omega arith))
+inner-kind u (RMW L i x v w) = not-inner v u 2 (omega arith)
+inner-kind u (RMW R i x v w) = not-inner v u 2 (omega arith)
+inner-kind u (RMW M i x v w) = not-inner v u 4 (omega arith)
 
 -- ---- what an event of another kind asks
 
@@ -155,7 +159,9 @@ pub read-known : (k : Site) (u : Value) (e : Event) (c m : ℕ) → kindOf u e �
 read-known k u e c m five can =
     let some : kindOf u e ≢ 0 = λ z. absurd (omega arith) in
     let both = rw (asks-kind k u e c m some, five) at can in
-    (eqb→eq c 0 (and-l (eqb c 0) (eqb m (readOf e)) both), eqb→eq m (readOf e) (and-r (eqb c 0) (eqb m (readOf e)) both))
+    let none = eqb c 0 in
+    let reads = eqb m (readOf e) in
+    (eqb→eq c 0 (and-l none reads both), eqb→eq m (readOf e) (and-r none reads both))
 
 -- So the state after an event of kind 3 to 5 is the same whatever it was before, where the event is possible.
 pub known-after : (k : Site) (u : Value) (e : Event) (c m m′ : ℕ) → 3 ≤ kindOf u e

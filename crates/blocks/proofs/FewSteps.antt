@@ -1,4 +1,5 @@
--- A run from any state has few silent steps: each lowers the potential of the location, which an event raises by at most 2.
+-- A run from any state has few silent steps: each lowers the potential of the location, which an event raises by at
+-- most 2.
 use Prim.Native.Nat.{ℕ, _+_, _*_, _≤_, _<_}
 use native.Mathlib.Omega.{arith}
 use mathlib.Core.Path.{refl}
@@ -26,7 +27,8 @@ module _ (k : Site) (own : OneToSix (k .owner)) where
   abbrev height : Local → ℕ
   height s = potential 6 (k .owner) (s .code)
 
-  stored-height : (form : Form) (i : Machine) → OneToSix i → (v : Value) (s : Local) → height (storedAt k form i v s) ≤ 2
+  stored-height : (form : Form) (i : Machine) → OneToSix i → (v : Value) (s : Local)
+      → height (storedAt k form i v s) ≤ 2
   stored-height L i o v s = after-store 6 (k .owner) i o
   stored-height R i o v s = after-store 6 (k .owner) (k .owner) own
   stored-height M i o v s = omega (arith, potential-none 6 (k .owner))

@@ -9,6 +9,7 @@ pub mod Cutting
 pub mod Splits
 pub mod Pricing
 pub mod Places
+pub mod Planning
 pub mod Crossing
 pub mod Walking
 pub mod FewSteps

@@ -8,7 +8,8 @@ use mathlib.Core.List.{List, [], _∷_, _++_}
 use lib.Dec.{T}
 use Rattle.model.specs.Cxl0.{Location, Value, Topology, Event, Silent, Propagate, WriteBack}
 use Rattle.model.specs.Cxl0.{Action, event, silent, events}
-use Rattle.model.specs.OneLocation.{Local, Site, siteOf, eventAt, silentAt, concerns, enabledAt, effect, nextAt, afterAt}
+use Rattle.model.specs.OneLocation.{Local, Site, siteOf, eventAt, silentAt, concerns, enabledAt, effect}
+use Rattle.model.specs.OneLocation.{nextAt, afterAt}
 use Rattle.model.specs.Meaning.{meant}
 use Rattle.model.specs.declared.Event as declared
 use Rattle.model.proofs.Greedy.{KnownAfter, known-last}
@@ -122,20 +123,23 @@ module _ {k : Site} {w : List ℕ} {b : Block} (laid : Segmented k w b 0) (x : L
       let t = segmentIn w l .first + d in
       let seg = laid .each l zero-le h in
       let keeps = inner-leads k (eventIn w t) 0 (segmentIn w l .copy) 0 (seg .inner t (omega arith) (omega arith)) in
-      let next = has-next l t (omega (arith, seg .inside)) (inside l h begins d (omega arith)) (ap (λ (s : Local). s .copy) keeps) in
-      rw add-suc next
+      let before = inside l h begins d (omega arith) in
+      rw add-suc (has-next l t (omega (arith, seg .inside)) before (ap (λ (s : Local). s .copy) keeps))
 
   -- So it is at the last gap of each segment, if it is at the first one,
   at-end : (l : ℕ) → l < b .count → Has l (segmentIn w l .first) → Has l (segmentIn w l .end)
   at-end l h begins =
       let seg = laid .each l zero-le h in
-      let there : segmentIn w l .first + (segmentIn w l .end - segmentIn w l .first) ≡ segmentIn w l .end = omega (arith, seg .order) in
-      rw there at (inside l h begins (segmentIn w l .end - segmentIn w l .first) (omega arith))
+      let d = segmentIn w l .end - segmentIn w l .first in
+      let there : segmentIn w l .first + d ≡ segmentIn w l .end = omega (arith, seg .order) in
+      rw there at (inside l h begins d (omega arith))
 
   -- and so it is at the first gap.
   at-first : (l : ℕ) → l < b .count → Has l (segmentIn w l .first)
   at-first zero h = (le-refl _, copy-first)
-  at-first (suc l) h = over l h (at-end l (omega arith) (at-first l (omega arith))) (laid .each l zero-le (omega arith) .closes)
+  at-first (suc l) h =
+      let less : l < b .count = omega arith in
+      over l h (at-end l less (at-first l less)) (laid .each l zero-le less .closes)
     where
       over : (l : ℕ) → suc l < b .count → Has l (segmentIn w l .end) → Closes k w b l
           → Has (suc l) (segmentIn w (suc l) .first)
@@ -166,8 +170,9 @@ module _ {k : Site} {w : List ℕ} {b : Block} (laid : Segmented k w b 0) (x : L
         → effect k (event e) s ≡ effect k (event e) (state 0 u (b .value))
     leads-on s same can =
         let shape : s ≡ state (s .code) u (s .memory) = λ i. state (s .code) (same i) (s .memory) in
+        let enabled = subst (λ (z : Local). T (enabledAt k (event e) z)) shape can in
         ap (effect k (event e)) shape
-        ∙ known-after k u e (s .code) (s .memory) (b .value) known value (subst (λ (z : Local). T (enabledAt k (event e) z)) shape can)
+        ∙ known-after k u e (s .code) (s .memory) (b .value) known value enabled
 
     pub known-behind : (sys : Topology) → siteOf sys x ≡ k → (c m : ℕ)
         → KnownAfter sys x (between w first (b .end)) (state c (segmentIn w 0 .copy) m)

@@ -24,7 +24,8 @@ use Rattle.blocks.specs.Blocks.{Laid, Costed, Priced}
 -- ---- what is kept
 
 -- The segments are there in any area of the same length where they and the events are as they were.
-pub kept-laid : {site : Site} {b : Block} {w w′ : List ℕ} → Kept w w′ → length w′ ≡ length w → Laid site b w → Laid site b w′
+pub kept-laid : {site : Site} {b : Block} {w w′ : List ℕ} → Kept w w′ → length w′ ≡ length w → Laid site b w
+    → Laid site b w′
 kept-laid kept sized laid =
     record {
       room = rw sized (laid .room);
@@ -33,8 +34,8 @@ kept-laid kept sized laid =
     }
 
 -- And so are their costs where only words between the events and the segments have changed.
-pub kept-costed : {site : Site} {b : Block} {from to : ℕ} {w w′ : List ℕ} → OnlyIn from to w w′ → ROWS ≤ from → to ≤ SEGMENTS
-    → Costed site b w → Costed site b w′
+pub kept-costed : {site : Site} {b : Block} {from to : ℕ} {w w′ : List ℕ} → OnlyIn from to w w′
+    → ROWS ≤ from → to ≤ SEGMENTS → Costed site b w → Costed site b w′
 kept-costed {site} {b} {w = w} {w′} only low high c =
     let kept = kept-between only low high in
     let same : SameFrom 0 w w′ = same-from only 0 (omega arith) in

@@ -26,22 +26,35 @@ use Rattle.scratch.proofs.Frames.{only-none, only-then, only-wider}
 use Rattle.scratch.proofs.Events.{meant-read}
 use Rattle.scratch.proofs.StepArea.{struct-kept, event-kept}
 use Rattle.levels.specs.Tasks.{accepting}
-use Rattle.segments.specs.Words.{segmentIn, SegmentFits, SegmentPut}
+use Rattle.segments.specs.Words.{SegmentFits, SegmentPut}
 use Rattle.segments.specs.Segments.{Accepts, Closes, final, ended}
 use Rattle.segments.specs.declared.words.Segment.{Segment}
 use Rattle.segments.specs.declared.words.Block.{Block}
 use Rattle.walking.specs.Acting.{Acts}
-use Rattle.blocks.specs.Splitting.{kindOf, closingOf, Splittable, Split}
+use Rattle.blocks.specs.Splitting.{kindOf, closingOf, Splittable, KnownEnd, Split}
 use Rattle.blocks.specs.declared.splitting.Place.{Place}
 use Rattle.blocks.proofs.EventKinds.{readOf, asks-kind, store-leads, read-value}
 use Rattle.blocks.proofs.Cutting.{NONE, Alike, Cut, Cuts, AllPut, cuts-none, cuts-inside, cuts-reset, all-put}
 use Rattle.blocks.proofs.Cutting.{cuts-next, segmented}
 
--- The segment that is open at the place, and the open segment s as an event closes it at gap t.
+-- The segment that is open at the place.
 abbrev pub opened : Place → ℕ → Segment
 opened p k =
     record { copy = p .copy; first = p .gap; end = k; code = p .code; closing = 0; reset = NONE }
 
+-- The segment that is open at gap t after a store.
+abbrev pub opens : Acted → (t k : ℕ) → Segment
+opens made t k =
+    record {
+      copy = made .entry .copy;
+      first = t;
+      end = k;
+      code = made .entry .sharers;
+      closing = 0;
+      reset = NONE;
+    }
+
+-- The open segment s as an event closes it at gap t.
 abbrev pub closed : Segment → (t closing : ℕ) → Segment
 closed s t closing =
     record { copy = s .copy; first = s .first; end = t; code = s .code; closing = closing; reset = s .reset }
@@ -64,7 +77,7 @@ closing-fits kind = go (eqb kind 5) (eqb kind 2 || eqb kind 4)
     go false true = omega arith
     go false false = omega arith
 
-module _ (site : Site) (p : Place) (k : ℕ) (w₀ : List ℕ) (start : Splittable site p k w₀) where
+module _ {site : Site} {p : Place} {k : ℕ} {w₀ : List ℕ} (start : Splittable site p k w₀) where
   abbrev s₀ : Segment
   s₀ = opened p k
 
@@ -110,7 +123,10 @@ module _ (site : Site) (p : Place) (k : ℕ) (w₀ : List ℕ) (start : Splittab
       here = omega (arith, at .most)
 
       pub fits-open : SegmentFits s
-      fits-open = subst SegmentFits (λ i. closed s (sym (at .end ∙ sym here) i) (sym (at .closing) i)) (fits-closed 0 (omega arith))
+      fits-open =
+          let end : t ≡ s .end = here ∙ sym (at .end) in
+          let closing : 0 ≡ s .closing = sym (at .closing) in
+          subst SegmentFits (λ i. closed s (end i) (closing i)) (fits-closed 0 (omega arith))
 
     -- ---- a segment is put
 
@@ -125,11 +141,7 @@ module _ (site : Site) (p : Place) (k : ℕ) (w₀ : List ℕ) (start : Splittab
       -- It closes the block.
       split-put : (b : Block) → b .count ≡ l + 1 → t ≤ b .end → p .gap < b .end → b .end ≤ k
           → Closes (siteMeant site) w′ b l
-          → (b .end < k → (last : ℕ) × (suc last ≡ b .count) × (suc (segmentIn w′ last .end) ≡ b .end)
-          × (3 ≤ kindOf (segmentIn w′ last .copy) (eventIn w₀ (segmentIn w′ last .end)))
-          × (kindOf (segmentIn w′ last .copy) (eventIn w₀ (segmentIn w′ last .end)) ≡ 5
-          → (b .forced ≡ true) × (b .value ≡ structIn w₀ (segmentIn w′ last .end) .value)))
-          → Split site p k w₀ b w′
+          → (b .end < k → KnownEnd w₀ b w′) → Split site p k w₀ b w′
       split-put b count upto longer most closes last =
           let begins = whole .begins in
           let same : (j : ℕ) → j < t → Known (structIn w′ j) =
@@ -254,21 +266,13 @@ module _ (site : Site) (p : Place) (k : ℕ) (w₀ : List ℕ) (start : Splittab
         -- with a store, after which the next segment begins,
         pub again-store : kind < 3 → {made : Acted}
             → Acts site (meant e) u (record { code = 0; memory = 0; end = 0 }) made
-            → Splitting site k w₀ s₀ w′ (l + 1)
-            (record { copy = made .entry .copy; first = t + 1; end = k; code = made .entry .sharers; closing = 0; reset = NONE })
-            (t + 1)
+            → Splitting site k w₀ s₀ w′ (l + 1) (opens made (t + 1) k) (t + 1)
         again-store few {made} acts =
-            let s′ : Segment = record {
-              copy = made .entry .copy;
-              first = t + 1;
-              end = k;
-              code = made .entry .sharers;
-              closing = 0;
-              reset = NONE;
-            } in
+            let s′ = opens made (t + 1) k in
             let not-read = ne-eqb kind 5 (λ e. absurd (omega arith)) in
             let asked : (c m : ℕ)
-            → enabledAt (siteMeant site) (event (eventIn w′ t)) (state c u m) ≡ accepting (closingOf kind) (eqb m u) c =
+            → enabledAt (siteMeant site) (event (eventIn w′ t)) (state c u m)
+            ≡ accepting (closingOf kind) (eqb m u) c =
             λ c m. asks-closed c m ∙ rw not-read (and-true _)
             in
             let cut : Cut (siteMeant site) w′ (closed s t (closingOf kind)) s′ =
@@ -299,6 +303,7 @@ module _ (site : Site) (p : Place) (k : ℕ) (w₀ : List ℕ) (start : Splittab
             let before : kindOf u (eventIn w₀ t) ≡ kind =
             rw (← event-kept (at .frame) (omega arith) t (omega (arith, start .few))) of-kind
             in
+            let same-value = ap (λ (f : declared.Event). f .value) (read ∙ same-struct t more) in
             split-put put (record { first = refl; code = refl; copy = refl }) refl refl b refl (omega arith)
             (omega (arith, at .cuts .from)) (omega arith)
             (final (sym (add-one l)) (rw (put .stored) (sym (add-one t))) (rw (put .stored) accepts))
@@ -307,5 +312,5 @@ module _ (site : Site) (p : Place) (k : ℕ) (w₀ : List ℕ) (start : Splittab
               sym (add-one l),
               rw (put .stored) (sym (add-one t)),
               rw (put .stored, before) last,
-              rw (put .stored, before) (λ five. (eq-eqb kind 5 five, ap (λ (f : declared.Event). f .value) (read ∙ same-struct t more))),
+              rw (put .stored, before) (λ five. (eq-eqb kind 5 five, same-value)),
             ))

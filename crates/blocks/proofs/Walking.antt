@@ -1,5 +1,5 @@
--- The walk through all segments of a block: as long as there is a step to pay it goes through one segment more, and then
--- the words noted are the shortest schedule.
+-- The walk through all segments of a block: as long as there is a step to pay it goes through one segment more, and
+-- then the words noted are the shortest schedule.
 use Prim.Native.Nat.{ℕ, zero-le, _+_, _≤_, _<_}
 use native.Mathlib.Nat.{le-refl, le-trans}
 use native.Mathlib.Omega.{arith}
@@ -24,7 +24,7 @@ use Rattle.blocks.specs.Treading.{stood}
 use Rattle.blocks.specs.Blocks.{between, Ahead, Come, Through}
 use Rattle.blocks.specs.declared.treading.Stand.{Stand}
 use Rattle.blocks.proofs.Towards.{all-ahead, walked-nothing, walked-then, walked-area}
-use Rattle.blocks.proofs.Crossing.{same-between}
+use Rattle.blocks.proofs.Planning.{same-between}
 
 -- ---- nothing to pay
 

@@ -23,7 +23,8 @@ use Rattle.rows.specs.Sites.{NamesSix, Known, Describes}
 use Rattle.scratch.specs.Layout.{MOST, ROWS, LEVELS, LOG, OnlyIn}
 use Rattle.scratch.specs.Words.{eventIn, structIn, eventsFrom}
 use Rattle.scratch.proofs.Frames.{only-then, only-wider}
-use Rattle.scratch.proofs.Events.{meant-read, known-machines, events-two, events-all, length-from, same-from, struct-same, event-same}
+use Rattle.scratch.proofs.Events.{meant-read, known-machines, events-two, events-all, length-from}
+use Rattle.scratch.proofs.Events.{same-from, struct-same, event-same}
 use Rattle.levels.specs.Stretches.{FAR}
 use Rattle.segments.specs.Words.{segmentIn}
 use Rattle.segments.specs.Costs.{restFrom}
@@ -39,7 +40,7 @@ use Rattle.blocks.proofs.Towards.{all-from}
 use Rattle.blocks.proofs.EventKinds.{readOf, read-value}
 use Rattle.segments.proofs.Kept.{kept-between}
 use Rattle.blocks.proofs.Pricing.{kept-laid}
-use Rattle.blocks.proofs.Crossing.{same-segment}
+use Rattle.blocks.proofs.Planning.{same-segment}
 use Rattle.blocks.proofs.Places.{known-behind}
 use Rattle.blocks.proofs.FewSteps.{pays-few}
 
@@ -126,8 +127,8 @@ module _ {site : Site} {p : Place} {k : ℕ} {w : List ℕ} (start : Blockable s
         costs .exact MOST-PAID (omega arith) .0
         (pays-more here few (omega (arith, length-from w₂ (p .gap) n, short)))
 
-    few-here : (sys : Topology) → Describes sys site → (l : ℕ) → Pays (siteOf sys x) (between w (p .gap) (b .end)) begin l
-        → steps ≤ MOST-PAID
+    few-here : (sys : Topology) → Describes sys site → (l : ℕ)
+        → Pays (siteOf sys x) (between w (p .gap) (b .end)) begin l → steps ≤ MOST-PAID
     few-here sys d l paid =
         few-steps {l = l} (rw (same-events (p .gap) (b .end) (omega (arith, cut .longer)) short, ← d .here) paid)
 
@@ -256,13 +257,19 @@ module _ {site : Site} {p : Place} {k : ℕ} {w : List ℕ} (start : Blockable s
 
         closable-last : Closable site b w₃
         closable-last =
+            let walk = through .frame in
             record {
-              laid = kept-laid (kept-between (through .frame) low (le-refl _)) (through .frame .sized) (priced .costed .laid);
+              laid = kept-laid (kept-between walk low (le-refl _)) (walk .sized) (priced .costed .laid);
               some = cut .some;
               inside = rw last-after near;
               known =
-                  rw (last-after, struct-same only-after t near) (start .splittable .known t (omega (arith, cut .most)));
+                  rw (last-after, struct-same only-after t near)
+                  (start .splittable .known t (omega (arith, cut .most)));
             }
+
+        -- What event j of the area leads to from no copy, with the block's value in memory.
+        abbrev Led : List ℕ → (j : ℕ) → Value → Local
+        Led v j c = effect here (event (eventIn v j)) (state 0 c (b .value))
 
         -- What the place says is the state after every run.
         known-place : {r : Place} → Closed site b end w₃ r → (sys : Topology) → Describes sys site
@@ -280,10 +287,7 @@ module _ {site : Site} {p : Place} {k : ℕ} {w : List ℕ} (start : Blockable s
             in
             let events = same-events (p .gap) (b .end) (omega (arith, cut .longer)) short in
             let place = rw (last-after, event-same only-after t near) at (closed .leads) in
-            let leads : effect here (event (eventIn w₂ (segmentIn w₂ last .end))) (state 0 (segmentIn w₂ last .copy) (b .value))
-            ≡ effect here (event (eventIn w t)) (state 0 u (b .value)) =
-            rw (same, event₂)
-            in
+            let leads : Led w₂ (segmentIn w₂ last .end) (segmentIn w₂ last .copy) ≡ Led w t u = rw (same, event₂) in
             subst (KnownAfter sys x (between w (p .gap) (b .end)) begin) (leads ∙ sym place)
             (rw (same-first, same-copy, events) at behind)
 

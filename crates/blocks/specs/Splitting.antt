@@ -46,6 +46,17 @@ pub record Splittable (site : Site) (p : Place) (k : ℕ) (w : List ℕ) : Type 
   pub fits : p .code < 64
   pub known : (j : ℕ) → j < k → Known (structIn w j)
 
+-- An event after which the state is known follows the last segment and ends the block; if it must read from memory, the
+-- block has its value.
+abbrev pub KnownEnd : List ℕ → Block → List ℕ → Type 0
+KnownEnd w b w' =
+    (last : ℕ)
+    × (suc last ≡ b .count)
+    × (suc (segmentIn w' last .end) ≡ b .end)
+    × (3 ≤ kindOf (segmentIn w' last .copy) (eventIn w (segmentIn w' last .end)))
+    × (kindOf (segmentIn w' last .copy) (eventIn w (segmentIn w' last .end)) ≡ 5
+    → (b .forced ≡ true) × (b .value ≡ structIn w (segmentIn w' last .end) .value))
+
 -- The block begins at the place and ends with the first event after which the state is known, or with the events.
 pub record Split (site : Site) (p : Place) (k : ℕ) (w : List ℕ) (b : Block) (w' : List ℕ) : Type 0 where
   pub frame : OnlyIn SEGMENTS LOG w w'
@@ -57,7 +68,4 @@ pub record Split (site : Site) (p : Place) (k : ℕ) (w : List ℕ) (b : Block) 
   pub longer : p .gap < b .end
   pub most : b .end ≤ k
   -- what comes after the last segment, if that is not the end of the events
-  pub last : b .end < k → (last : ℕ) × (suc last ≡ b .count) × (suc (segmentIn w' last .end) ≡ b .end)
-      × (3 ≤ kindOf (segmentIn w' last .copy) (eventIn w (segmentIn w' last .end)))
-      × (kindOf (segmentIn w' last .copy) (eventIn w (segmentIn w' last .end)) ≡ 5
-      → (b .forced ≡ true) × (b .value ≡ structIn w (segmentIn w' last .end) .value))
+  pub last : b .end < k → KnownEnd w b w'

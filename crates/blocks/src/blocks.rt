@@ -1,5 +1,5 @@
-// The shortest schedule of a block: its segments are weighed from the last one to the first, and walked through from the
-// first one on, as long as there is a step to pay.
+// The shortest schedule of a block: its segments are weighed from the last one to the first, and walked through from
+// the first one on, as long as there is a step to pay.
 use crate::splitting::Place;
 use crate::splitting::split;
 use crate::treading::Stand;

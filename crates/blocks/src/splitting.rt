@@ -29,7 +29,8 @@ pub struct Place {
     pub end: usize,
 }
 
-// What an event is to a segment whose copies have the value u: 0 inside it, 1 or 2 a store, 3 to 5 the last of its block.
+// What an event is to a segment whose copies have the value u: 0 inside it, 1 or 2 a store, 3 to 5 the last of its
+// block.
 pub fn kind(e: Event, u: u32) -> u8
     requires { ⌜ Known e ⌝ }
     ensures { λ r. ⌜ r ≡ kindOf u (meant e) ⌝ }

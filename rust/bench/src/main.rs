@@ -1,5 +1,6 @@
 //! How fast the proved judge is beside the second judge's straightforward searches with hash sets: in layers, for some
-//! run, and by a 0-1 breadth-first search, for the shortest schedule.
+//! run (`second`), and two 0-1 breadth-first searches for the shortest schedule, one forward in the order of schedules
+//! (`0-1 search`), one for what each state has to pay to the end, with a walk behind it (`0-1 costs`).
 //!
 //!     bench                      every table
 //!     bench one CORPUS EDITION   the proved judge and the proved converter on one log of a corpus, once, for counting
@@ -15,7 +16,7 @@ use std::process::ExitCode;
 use corpora::{Corpus, CORPORA};
 use malluvom::SCRATCH_LEAST;
 use second::Edition;
-use timing::{agree, clearing, converting, converts, measure, Agreed, Times};
+use timing::{agree, clearing, converting, converts, measure, Times, ROUNDS};
 
 fn main() -> ExitCode {
     let words: Vec<String> = std::env::args().skip(1).collect();
@@ -49,56 +50,78 @@ fn usage() -> ExitCode {
 
 fn tables() -> Result<(), String> {
     let clear = clearing(SCRATCH_LEAST);
-    println!(
-        "Microseconds per log, mean over a corpus of the median of {} rounds; p99 over its logs.\n",
-        timing::ROUNDS
-    );
-    println!(
-        "| corpus | edition | proved | p99 | second | p99 | 0-1 search | p99 | scan | second / proved | 0-1 / proved | \
-         proved / scan |"
-    );
-    println!("|---|---|---|---|---|---|---|---|---|---|---|---|");
-    let mut small = None;
-    let mut all = Agreed::default();
-    for edition in Edition::ALL {
-        for corpus in CORPORA {
-            let times = checked(&corpus.logs(edition), &mut all)?;
-            println!(
-                "| {} | {} | {:.2} | {:.2} | {:.2} | {:.2} | {:.2} | {:.2} | {:.3} | {:.1} | {:.1} | {:.1} |",
-                corpus.title(),
-                edition.number(),
-                times.proved.mean,
-                times.proved.p99,
-                times.layers.mean,
-                times.layers.p99,
-                times.shortest.mean,
-                times.shortest.p99,
-                times.scan.mean,
-                times.layers.mean / times.proved.mean,
-                times.shortest.mean / times.proved.mean,
-                times.proved.mean / times.scan.mean
-            );
-            small.get_or_insert(times.proved.mean);
-        }
-    }
-    let share = 100.0 * clear / small.unwrap_or(clear);
+    println!("Microseconds per log, mean over a corpus of the median of {ROUNDS} rounds; p99 over its logs.");
+    println!("Steps are the silent steps of an allowed log, in the mean.");
+    let measured = corpora()?;
+    beside_the_scan(&measured);
+    let share = 100.0 * clear / measured[0].times.proved.mean;
     println!("\nClearing {SCRATCH_LEAST} numbers takes {clear:.2} microseconds, {share:.0} % of a small log.");
+    shortest(&measured);
+    hard_logs()?;
+    events()?;
+    locations()?;
     converter()?;
-    events(&mut all)?;
-    locations(&mut all)?;
-    hard_logs(&mut all)?;
     scratch();
-    println!("\nOf {} allowed logs the proved judge's schedule is the shortest for {}.", all.allowed, all.same);
     Ok(())
 }
 
-/// The times of logs on which the sides agree, which are added to all.
-fn checked(logs: &[Vec<u8>], all: &mut Agreed) -> Result<Times, String> {
-    let agreed = agree(logs)?;
-    all.allowed += agreed.allowed;
-    all.same += agreed.same;
-    all.steps += agreed.steps;
-    Ok(measure(logs, SCRATCH_LEAST))
+/// What a corpus took in an edition.
+struct Measured {
+    title: String,
+    edition: u8,
+    steps: f64,
+    times: Times,
+}
+
+fn corpora() -> Result<Vec<Measured>, String> {
+    let mut measured = Vec::new();
+    for edition in Edition::ALL {
+        for corpus in CORPORA {
+            let logs = corpus.logs(edition);
+            let (steps, times) = (agree(&logs)?, measure(&logs, SCRATCH_LEAST));
+            measured.push(Measured { title: corpus.title(), edition: edition.number(), steps, times });
+        }
+    }
+    Ok(measured)
+}
+
+fn beside_the_scan(measured: &[Measured]) {
+    println!("\n| corpus | edition | proved | p99 | second | p99 | scan | second / proved | proved / scan |");
+    println!("|---|---|---|---|---|---|---|---|---|");
+    for Measured { title, edition, times, .. } in measured {
+        let Times { proved, layers, scan, .. } = times;
+        println!(
+            "| {title} | {edition} | {:.2} | {:.2} | {:.2} | {:.2} | {:.3} | {:.1} | {:.1} |",
+            proved.mean,
+            proved.p99,
+            layers.mean,
+            layers.p99,
+            scan.mean,
+            layers.mean / proved.mean,
+            proved.mean / scan.mean
+        );
+    }
+}
+
+fn shortest(measured: &[Measured]) {
+    println!();
+    println!(
+        "| corpus | edition | steps | proved | 0-1 search | p99 | 0-1 costs | p99 | search / proved | costs / proved |"
+    );
+    println!("|---|---|---|---|---|---|---|---|---|---|");
+    for Measured { title, edition, steps, times } in measured {
+        let Times { proved, search, costs, .. } = times;
+        println!(
+            "| {title} | {edition} | {steps:.1} | {:.2} | {:.2} | {:.2} | {:.2} | {:.2} | {:.1} | {:.1} |",
+            proved.mean,
+            search.mean,
+            search.p99,
+            costs.mean,
+            costs.p99,
+            search.mean / proved.mean,
+            costs.mean / proved.mean
+        );
+    }
 }
 
 fn converter() -> Result<(), String> {
@@ -122,54 +145,60 @@ fn converter() -> Result<(), String> {
     Ok(())
 }
 
-fn events(all: &mut Agreed) -> Result<(), String> {
+fn events() -> Result<(), String> {
     heading("events (6 machines, 4 locations)");
     for events in [16, 32, 64, 128] {
-        row(events, &Corpus { machines: 6, locations: 4, events, ..CORPORA[1] }, all)?;
+        row(events, &Corpus { machines: 6, locations: 4, events, ..CORPORA[1] })?;
     }
     Ok(())
 }
 
-fn locations(all: &mut Agreed) -> Result<(), String> {
+fn locations() -> Result<(), String> {
     heading("locations (6 machines, 128 events)");
     for locations in [1, 4, 16, 32] {
-        row(locations, &Corpus { machines: 6, locations, events: 128, ..CORPORA[1] }, all)?;
+        row(locations, &Corpus { machines: 6, locations, events: 128, ..CORPORA[1] })?;
     }
     Ok(())
 }
 
 fn heading(what: &str) {
-    println!("\n| {what} | proved | second | 0-1 search | second / proved | 0-1 / proved |\n|---|---|---|---|---|---|");
+    println!("\n| {what} | proved | second | 0-1 search | second / proved | search / proved |");
+    println!("|---|---|---|---|---|---|");
 }
 
-fn row(size: usize, corpus: &Corpus, all: &mut Agreed) -> Result<(), String> {
-    let Times { proved, layers, shortest, .. } = checked(&corpus.logs(Edition::First), all)?;
+fn row(size: usize, corpus: &Corpus) -> Result<(), String> {
+    let logs = corpus.logs(Edition::First);
+    agree(&logs)?;
+    let Times { proved, layers, search, .. } = measure(&logs, SCRATCH_LEAST);
     println!(
         "| {size} | {:.2} | {:.2} | {:.2} | {:.1} | {:.1} |",
         proved.mean,
         layers.mean,
-        shortest.mean,
+        search.mean,
         layers.mean / proved.mean,
-        shortest.mean / proved.mean
+        search.mean / proved.mean
     );
     Ok(())
 }
 
-fn hard_logs(all: &mut Agreed) -> Result<(), String> {
+fn hard_logs() -> Result<(), String> {
+    println!();
     println!(
-        "\n| 128 events | logs | proved | slowest | 0-1 search | 0-1 / proved | steps |\n|---|---|---|---|---|---|---|"
+        "| 128 events | logs | steps | proved | slowest | 0-1 search | 0-1 costs | search / proved | costs / proved |"
     );
+    println!("|---|---|---|---|---|---|---|---|---|");
     for (title, logs) in hard::rows() {
-        let steps = all.steps;
-        let Times { proved, shortest, .. } = checked(&logs, all)?;
+        let steps = agree(&logs)?;
+        let Times { proved, search, costs, .. } = measure(&logs, SCRATCH_LEAST);
         println!(
-            "| {title} | {} | {:.2} | {:.2} | {:.2} | {:.1} | {:.1} |",
+            "| {title} | {} | {steps:.1} | {:.2} | {:.2} | {:.2} | {:.2} | {:.1} | {:.1} |",
             logs.len(),
             proved.mean,
             proved.most,
-            shortest.mean,
-            shortest.mean / proved.mean,
-            (all.steps - steps) as f64 / logs.len() as f64
+            search.mean,
+            costs.mean,
+            search.mean / proved.mean,
+            costs.mean / proved.mean
         );
     }
     Ok(())

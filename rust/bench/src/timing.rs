@@ -3,9 +3,9 @@
 use std::hint::black_box;
 use std::time::Instant;
 
-use malluvom::{convert_into, judge_into, Judged, CONVERT_LEAST, FILE_MOST, SCRATCH_LEAST};
+use malluvom::{convert_into, judge_into, Judge, Judged, Replayed, CONVERT_LEAST, FILE_MOST, SCRATCH_LEAST};
 use second::verdict_file::write;
-use second::{judge_bytes, judge_in_layers, read, Verdict};
+use second::{judge_by_costs, judge_in_layers, read, Log, Verdict};
 
 use crate::scan::scan;
 
@@ -23,49 +23,48 @@ pub struct Side {
     pub most: f64,
 }
 
-/// The four sides.
+/// The sides.
 pub struct Times {
     pub proved: Side,
     /// The second judge's search in layers, for some run.
     pub layers: Side,
     /// The second judge, by its 0-1 search for the shortest schedule.
-    pub shortest: Side,
+    pub search: Side,
+    /// The same by what each state has to pay to the end.
+    pub costs: Side,
     pub scan: Side,
 }
 
-/// What all sides agree on.
-#[derive(Default)]
-pub struct Agreed {
-    pub allowed: usize,
-    /// How often the proved judge's schedule is the shortest.
-    pub same: usize,
-    /// The silent steps of the shortest schedules.
-    pub steps: usize,
-}
-
-/// Whether the judges agree on all logs, with each proved schedule replayed.
-pub fn agree(logs: &[Vec<u8>]) -> Result<Agreed, String> {
-    let mut judge = malluvom::Judge::new();
-    let mut agreed = Agreed::default();
+/// The silent steps of the allowed logs, in the mean, if the sides agree on all logs.
+pub fn agree(logs: &[Vec<u8>]) -> Result<f64, String> {
+    let mut judge = Judge::new();
+    let (mut allowed, mut steps) = (0, 0);
     for log in logs {
-        let (proved, second) = (judge.judge(log), judge_bytes(log));
-        let same = match (&proved, &second) {
-            (Ok(malluvom::Verdict::Allowed(schedule)), Ok(Verdict::Allowed(steps))) => {
-                let file = schedule.to_file();
-                agreed.allowed += 1;
-                agreed.same += usize::from(file == write(&Verdict::Allowed(steps.clone())));
-                agreed.steps += steps.len();
-                malluvom::replay(log, &file) == Ok(malluvom::Replayed::Yes)
+        match agreed(log, &mut judge) {
+            Some(Verdict::Allowed(found)) => {
+                allowed += 1;
+                steps += found.len();
             }
-            (Ok(malluvom::Verdict::Impossible { event }), Ok(Verdict::Impossible(second))) => event == second,
-            _ => false,
-        };
-        let layers = read(log).map(|log| judge_in_layers(&log).first_impossible());
-        if !same || !scan(log) || layers != second.map(|verdict| verdict.first_impossible()) {
-            return Err(format!("the judges differ on {log:02x?}: {proved:?}"));
+            Some(Verdict::Impossible(_)) => {}
+            None => return Err(format!("the sides differ on {log:02x?}")),
         }
     }
-    Ok(agreed)
+    Ok(steps as f64 / allowed.max(1) as f64)
+}
+
+/// The verdict on which the sides agree: the files of those that find the shortest schedule are the same to the byte,
+/// the search in layers finds the same impossible event, the schedule of an allowed log replays, and the scan accepts.
+fn agreed(log: &[u8], judge: &mut Judge) -> Option<Verdict> {
+    let records = read(log).ok()?;
+    let verdict = second::judge(&records);
+    let (_, file) = judge.file(log).ok()?;
+    let impossible = verdict.first_impossible();
+    let same = file == write(&verdict)
+        && file == write(&judge_by_costs(&records))
+        && impossible == judge_in_layers(&records).first_impossible()
+        && (impossible.is_some() || malluvom::replay(log, file) == Ok(Replayed::Yes))
+        && scan(log);
+    same.then_some(verdict)
 }
 
 /// Whether the proved converter makes each log of the second row of the same one in the first, and the other way round.
@@ -88,28 +87,30 @@ fn time(mut call: impl FnMut()) -> f64 {
 }
 
 /// Times the judges and the scan on each log. The proved judge is asked through the static library with buffers that
-/// stay; reading, the verdict's bytes and clearing the scratch are included. The second judge, by either of its
-/// searches, reads, judges and writes the verdict's bytes into fresh memory, and has no scratch to clear.
+/// stay; reading, the verdict's bytes and clearing the scratch are included. The second judge, by each of its searches,
+/// reads, judges and writes the verdict's bytes into fresh memory, and has no scratch to clear.
 pub fn measure(logs: &[Vec<u8>], scratch: usize) -> Times {
     let mut out = vec![0; FILE_MOST];
     let mut scratch = vec![0; scratch];
-    let [proved, layers, shortest, scan] = in_turn(logs, |log| {
+    let second = |log: &[u8], judge: fn(&Log) -> Verdict| {
+        time(|| {
+            let _ = black_box(read(log).map(|log| write(&judge(&log))));
+        })
+    };
+    let [proved, layers, search, costs, scan] = in_turn(logs, |log| {
         [
             time(|| {
                 let _ = black_box(judge_into(log, &mut out, 0, &mut scratch));
             }),
-            time(|| {
-                let _ = black_box(read(log).map(|log| write(&judge_in_layers(&log))));
-            }),
-            time(|| {
-                let _ = black_box(judge_bytes(log).map(|verdict| write(&verdict)));
-            }),
+            second(log, judge_in_layers),
+            second(log, second::judge),
+            second(log, judge_by_costs),
             time(|| {
                 let _ = black_box(scan(black_box(log)));
             }),
         ]
     });
-    Times { proved, layers, shortest, scan }
+    Times { proved, layers, search, costs, scan }
 }
 
 /// Times the proved and the second converter on each log. Both read the log and write into an output that stays.

@@ -3,10 +3,10 @@
 use std::path::{Path, PathBuf};
 
 use corpus::Random;
-use second::{judge_bytes, printed, read, replay, Replayed, Step, Verdict};
+use second::{judge_bytes, printed};
 
 use crate::report::Report;
-use crate::trial::{self, SAME_SCHEDULE};
+use crate::trial;
 
 /// Compares every .log file in the folders of a folder. A file without stored output is named, and is no difference.
 pub fn compare(folder: &Path) -> bool {
@@ -26,8 +26,10 @@ pub fn compare(folder: &Path) -> bool {
         trial::compare("examples", &log, &mut random, &mut report);
         match std::fs::read_to_string(path.with_extension("out")) {
             Ok(out) => {
-                if let Err(difference) = stored(&log, &out) {
-                    report.differ("stored output", &log, &format!("{}: {difference}", path.display()));
+                let second = printed(&judge_bytes(&log));
+                if out != second {
+                    let detail = format!("{}: the second judge prints {second:?}", path.display());
+                    report.differ("stored output", &log, &detail);
                 }
             }
             Err(_) => println!("no stored output: {}", path.display()),
@@ -47,40 +49,4 @@ fn collect(folder: &Path, logs: &mut Vec<PathBuf>) -> std::io::Result<()> {
         }
     }
     Ok(())
-}
-
-/// Whether a stored output is what the second judge prints; or, while schedules may differ, an allowed log's verdict
-/// and the steps of some run.
-fn stored(log: &[u8], out: &str) -> Result<(), String> {
-    let judged = judge_bytes(log);
-    let second = printed(&judged);
-    if out == second {
-        return Ok(());
-    }
-    match judged {
-        Ok(Verdict::Allowed(_)) if !SAME_SCHEDULE => some_run(log, out),
-        _ => Err(format!("the second judge prints {second:?}")),
-    }
-}
-
-/// Whether a stored output says allowed, with as many steps as it has, and these are a run.
-fn some_run(log: &[u8], out: &str) -> Result<(), String> {
-    let body = out.strip_suffix("end\n").ok_or("does not stop with 'end'")?;
-    let (first, steps) = body.split_once('\n').ok_or("has no first line")?;
-    let steps = steps.lines().map(step).collect::<Option<Vec<_>>>().ok_or("a line is no step")?;
-    if first != format!("allowed {}", steps.len()) {
-        return Err(format!("the second judge says allowed, and there are {} steps", steps.len()));
-    }
-    match read(log).map(|records| replay(&records, &steps)) {
-        Ok(Replayed::Yes) => Ok(()),
-        answer => Err(format!("its steps are no run: {answer:?}")),
-    }
-}
-
-fn step(line: &str) -> Option<Step> {
-    let numbers: Vec<u8> = line.split(' ').map(|word| word.parse().ok()).collect::<Option<_>>()?;
-    let [before, location, machine] = numbers[..] else {
-        return None;
-    };
-    Some(Step { before, location, machine })
 }

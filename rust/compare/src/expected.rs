@@ -1,6 +1,6 @@
 //! What the library must answer: the second judge's answers, packed as include/cxl0.h says.
 
-use second::{Log, Refusal, Replayed};
+use second::{Log, Refusal, Replayed, Verdict};
 
 /// A refusal is its number and nothing else.
 pub fn packed<T>(answer: Result<T, Refusal>, pack: impl FnOnce(T) -> u64) -> u64 {
@@ -23,10 +23,11 @@ pub fn replay(replayed: Replayed) -> u64 {
     }
 }
 
-pub fn allowed(steps: usize, length: usize) -> u64 {
-    1 << 8 | (steps as u64) << 24 | (length as u64) << 40
-}
-
-pub fn impossible(event: u8, length: usize) -> u64 {
-    u64::from(event) << 16 | (length as u64) << 40
+/// The verdict of an accepted log, with a file of this length.
+pub fn verdict(verdict: &Verdict, length: usize) -> u64 {
+    let told = match verdict {
+        Verdict::Allowed(steps) => 1 << 8 | (steps.len() as u64) << 24,
+        Verdict::Impossible(event) => u64::from(*event) << 16,
+    };
+    told | (length as u64) << 40
 }

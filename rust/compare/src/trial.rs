@@ -1,17 +1,13 @@
 //! One log through every call on both sides.
 
 use corpus::Random;
-use second::{read_schedule, replay, verdict_file, Log, Refusal, Replayed, Step, Verdict};
+use second::{replay_bytes, verdict_file, Log, Refusal, Replayed, Step, Verdict};
 use second::{FILE_MOST, SCRATCH_LEAST, STEPS_MOST};
 
 use crate::report::{hex, Report};
 use crate::{converting, expected, proved, recording, replaying};
 
-/// Whether the proved judge gives the shortest schedule, so that the file of an allowed log is compared byte for byte,
-/// and each stored output. Until it does, its schedule must be a run, and have no fewer steps than the shortest.
-pub const SAME_SCHEDULE: bool = false;
-
-/// What the proved judge made of an accepted log: its answer, the file, and the silent steps in it.
+/// What both judges must make of an accepted log: the answer, the file, and the silent steps in it.
 #[derive(Default)]
 pub struct Judged {
     pub answer: u64,
@@ -101,7 +97,7 @@ fn short_areas(log: &[u8], random: &mut Random, report: &mut Report) {
     report.call("judge with short buffers", Err(Refusal::BUFFER_TOO_SHORT));
 }
 
-/// The verdicts of both sides.
+/// The verdicts of both sides: the answers and every byte of the files are the same.
 fn judged(
     kind: &'static str,
     log: &[u8],
@@ -124,51 +120,36 @@ fn judged(
     report.verdicts(kind).count(records, &verdict);
     let longest = &mut report.longest[records.edition as usize];
     *longest = log.len().max(*longest);
+    let file = verdict_file::write(&verdict);
+    let expected = expected::verdict(&verdict, file.len());
+    report.same("verdict", log, answer, expected);
+    let written = &areas.out[areas.offset..][..file.len()];
+    if written != file {
+        report.differ("verdict file", log, &format!("proved {}, second {}", hex(written), hex(&file)));
+    }
+    report.same("buffers after a verdict", log, areas.holds(&file), true);
     let layers = second::judge_in_layers(records);
     report.same("first impossible event in layers", log, layers.first_impossible(), verdict.first_impossible());
-    let length = ((answer >> 40) as usize & 0xffff).min(FILE_MOST);
-    let file = areas.out[areas.offset..][..length].to_vec();
-    let second = verdict_file::write(&verdict);
-    let steps = match &verdict {
-        Verdict::Impossible(event) => {
-            report.same("verdict", log, answer, expected::impossible(*event, second.len()));
-            report.same("buffers after an impossible log", log, areas.holds(&second), true);
-            Vec::new()
-        }
-        Verdict::Allowed(shortest) => {
-            let steps = allowed(log, records, answer, &file, &areas, report);
-            if SAME_SCHEDULE && file != second {
-                report.differ("verdict file", log, &format!("proved {}, second {}", hex(&file), hex(&second)));
-            }
-            report.same("no fewer steps than the shortest schedule", log, steps.len() >= shortest.len(), true);
-            report.same("replay of the shortest schedule", log, proved::replay(log, &second), 1 << 8);
+    let steps = match verdict {
+        Verdict::Impossible(_) => Vec::new(),
+        Verdict::Allowed(steps) => {
+            allowed(log, records, &steps, &file, report);
             let other = verdict_file::write(&layers);
             report.same("replay of another run", log, proved::replay(log, &other), 1 << 8);
             steps
         }
     };
-    Judged { answer, file, steps }
+    Judged { answer: expected, file, steps }
 }
 
-/// The proved side's schedule of an allowed log, held to all that the specification says of it.
-fn allowed(log: &[u8], records: &Log, answer: u64, file: &[u8], areas: &Areas, report: &mut Report) -> Vec<Step> {
-    let steps = match read_schedule(records, file) {
-        Ok(steps) => steps,
-        Err(_) => {
-            report.differ("no schedule of an allowed log", log, &format!("answer {answer:#x}, file {}", hex(file)));
-            return Vec::new();
-        }
-    };
-    report.same("verdict", log, answer, expected::allowed(steps.len(), file.len()));
-    let written = verdict_file::write(&Verdict::Allowed(steps.clone()));
-    report.same("buffers after an allowed log", log, areas.holds(&written), true);
+/// The schedule of an allowed log, held to all that the specification says of it.
+fn allowed(log: &[u8], records: &Log, steps: &[Step], file: &[u8], report: &mut Report) {
     if steps.len() > records.steps_most().min(STEPS_MOST) {
         report.differ("more silent steps than the bound", log, &format!("{} steps", steps.len()));
     }
-    report.same("second replay of the schedule", log, replay(records, &steps), Replayed::Yes);
+    report.same("second replay of the schedule", log, replay_bytes(log, file), Ok(Replayed::Yes));
     report.same("proved replay of the schedule", log, proved::replay(log, file), 1 << 8);
     report.schedules += 1;
     report.steps += steps.len();
     report.steps_most = report.steps_most.max(steps.len());
-    steps
 }

@@ -130,8 +130,9 @@ pub fn replay(log: &[u8], schedule: &[u8]) -> Result<Replayed, Refusal> {
     })
 }
 
-/// Judges a log. The verdict file goes to the output at the offset, with [`FILE_MOST`] bytes of room, and the scratch,
-/// of at least [`SCRATCH_LEAST`] numbers, is all zero afterwards. A refusal changes nothing.
+/// Judges a log. The verdict file, with the shortest schedule of an allowed log, goes to the output at the offset, with
+/// [`FILE_MOST`] bytes of room, and the scratch, of at least [`SCRATCH_LEAST`] numbers, is all zero afterwards. A
+/// refusal changes nothing.
 pub fn judge_into(log: &[u8], out: &mut [u8], offset: usize, scratch: &mut [u64]) -> Result<Judged, Refusal> {
     let answer = unsafe {
         malluvom_sys::cxl0_judge(

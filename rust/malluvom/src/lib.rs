@@ -2,7 +2,8 @@
 //!
 //! A log is a row of loads, stores, read-modify-writes, flushes and crashes of a Compute Express Link shared-memory
 //! system. The judge says whether some choice of silent steps, copies that move between caches and to memory, explains
-//! it. The calls are those of the proved library with typed answers; [`Judge`] keeps the buffers that judging needs.
+//! it, and gives the shortest. The calls are those of the proved library with typed answers; [`Judge`] keeps the
+//! buffers that judging needs.
 //!
 //! ```
 //! use malluvom::{Judge, Recorder, Verdict};

@@ -153,6 +153,47 @@ fn examples_are_judged_explained_and_drawn() {
     }
 }
 
+/// An example that shows the schedule of before beside the shortest: each is a run.
+#[test]
+fn replay_takes_the_shortest_schedule_and_a_longer_one() {
+    let example = Path::new(env!("CARGO_MANIFEST_DIR")).join("../../examples/shortest/steps-01-one-move.log");
+    let log = folder("shortest").join("a.log");
+    fs::copy(&example, &log).unwrap();
+    assert_eq!(status(&tool(&["judge", "--write", log.to_str().unwrap()])), 0);
+    let shortest = (log.with_extension("verdict"), example.with_extension("out"));
+    let before = (example.with_extension("before.verdict"), example.with_extension("before"));
+    for (verdict, printed) in [shortest, before] {
+        assert_eq!(print(&["replay", log.to_str().unwrap(), verdict.to_str().unwrap()]), "yes\n");
+        let schedule = malluvom::Schedule::of_file(&fs::read(verdict).unwrap());
+        let expected = format!("allowed {}\n{schedule}end\n", schedule.steps.len());
+        assert_eq!(fs::read_to_string(printed).unwrap(), expected);
+    }
+}
+
+/// The pictures in docs/, and the commands of docs/TEXT-FORM.md that stand there with what they print.
+#[test]
+fn the_documents_show_what_the_tool_gives() {
+    let root = Path::new(env!("CARGO_MANIFEST_DIR")).join("../..");
+    let given = |words: &[&str]| {
+        let output = Command::new(env!("CARGO_BIN_EXE_malluvom")).current_dir(&root).args(words).output().unwrap();
+        String::from_utf8(output.stdout).unwrap()
+    };
+    for (log, picture) in [("marked/04.log", "case-04.svg"), ("shortest/steps-01-one-move.log", "shortest.svg")] {
+        let drawn = fs::read_to_string(root.join("docs").join(picture)).unwrap();
+        assert_eq!(drawn, given(&["draw", &format!("examples/{log}")]), "{picture}");
+    }
+    let text = fs::read_to_string(root.join("docs/TEXT-FORM.md")).unwrap();
+    let shown: Vec<&str> = text.split("    $ malluvom ").skip(1).collect();
+    assert_eq!(shown.len(), 3);
+    for command in shown {
+        let (words, rest) = command.split_once('\n').unwrap();
+        let lines = rest.lines().map_while(|line| line.strip_prefix("    ").or(line.is_empty().then_some("")));
+        let lines: Vec<&str> = lines.collect();
+        let given = given(&words.split(' ').collect::<Vec<_>>());
+        assert_eq!(lines.join("\n").trim_end(), given.trim_end(), "{words}");
+    }
+}
+
 #[test]
 fn explanations_name_the_values_that_could_be_read() {
     let root = Path::new(env!("CARGO_MANIFEST_DIR")).join("../../examples/marked");

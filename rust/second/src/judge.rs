@@ -1,5 +1,6 @@
 //! The verdict of a log, and the judge's call with lent buffers.
 
+use crate::costs::Costs;
 use crate::layers::Layers;
 use crate::shortest::Shortest;
 use crate::{log, verdict_file, Log, Refusal, Step, FILE_MOST};
@@ -30,6 +31,12 @@ impl Verdict {
 /// these the one whose numbers, in file order, are smallest at the first difference.
 pub fn judge(log: &Log) -> Verdict {
     let mut search = Shortest::default();
+    location_by_location(log, |location, events| search.run(log, location, events))
+}
+
+/// The same verdict, with the same schedule, by what each state has to pay to the end.
+pub fn judge_by_costs(log: &Log) -> Verdict {
+    let mut search = Costs::default();
     location_by_location(log, |location, events| search.run(log, location, events))
 }
 

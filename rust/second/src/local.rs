@@ -57,6 +57,14 @@ impl Local {
         next
     }
 
+    /// The state after an event that concerns the location, or nothing if it is not possible.
+    pub(crate) fn after(&self, event: &Event, home: Home) -> Option<Local> {
+        match event.crashed() {
+            0 => self.apply(event, home.owner),
+            crashed => Some(self.crash(crashed, home)),
+        }
+    }
+
     /// The state after a silent step, a write-back if the machine is 0, or nothing if it is not possible.
     pub(crate) fn step(&self, machine: u8, owner: u8) -> Option<Local> {
         if machine == 0 {

@@ -10,7 +10,7 @@ use std::collections::{HashSet, VecDeque};
 
 use crate::local::Local;
 use crate::trail::{steps_to, Node};
-use crate::{Event, Home, Log, Step};
+use crate::{Log, Step};
 
 /// The search of one location after another; it keeps its memory from one to the next.
 #[derive(Default)]
@@ -48,7 +48,7 @@ impl Shortest {
                     self.queue.push_back((passed, Node { state, parent, step }));
                 }
             }
-            if let Some(state) = after(node.state, &log.events[usize::from(next - 1)], home) {
+            if let Some(state) = node.state.after(&log.events[usize::from(next - 1)], home) {
                 self.queue.push_front((passed + 1, Node { state, parent, step: None }));
             }
         }
@@ -61,109 +61,6 @@ impl Shortest {
         self.nodes.clear();
         self.numbers.clear();
         self.numbers.push(0);
-        let numbered = (1..).zip(&log.events[..events]);
-        self.numbers.extend(numbered.filter(|(_, event)| event.concerns(location)).map(|(number, _)| number));
-    }
-}
-
-/// The state after an event that concerns the location, or nothing if it is not possible.
-fn after(state: Local, event: &Event, home: Home) -> Option<Local> {
-    match event.crashed() {
-        0 => state.apply(event, home.owner),
-        crashed => Some(state.crash(crashed, home)),
-    }
-}
-
-#[cfg(test)]
-mod tests {
-    use std::collections::HashMap;
-
-    use corpus::{change_one_load, encode, narrow, plausible, Random, Shape};
-
-    use super::*;
-    use crate::read;
-
-    /// The same by costs: what each state after so many events has to pay to the end, and then a walk that takes the
-    /// first step that lowers it, and the event where none does.
-    struct Costs<'a> {
-        log: &'a Log,
-        location: u8,
-        events: Vec<(u8, Event)>,
-        known: HashMap<(usize, Local), Option<usize>>,
-    }
-
-    impl Costs<'_> {
-        fn of(log: &Log, location: u8) -> Costs<'_> {
-            let events = (1..).zip(log.events.iter().copied()).filter(|(_, event)| event.concerns(location)).collect();
-            Costs { log, location, events, known: HashMap::new() }
-        }
-
-        /// The states that silent steps lead to, by machine.
-        fn steps(&self, state: Local) -> Vec<(u8, Local)> {
-            let owner = self.log.homes[usize::from(self.location)].owner;
-            (0..=self.log.machines).filter_map(|machine| Some((machine, state.step(machine, owner)?))).collect()
-        }
-
-        fn after_event(&self, passed: usize, state: Local) -> Option<Local> {
-            after(state, &self.events[passed].1, self.log.homes[usize::from(self.location)])
-        }
-
-        /// The fewest silent steps of a run of the events that are left, if there is one.
-        fn cost(&mut self, passed: usize, state: Local) -> Option<usize> {
-            if passed == self.events.len() {
-                return Some(0);
-            }
-            if let Some(cost) = self.known.get(&(passed, state)) {
-                return *cost;
-            }
-            let mut costs = Vec::new();
-            costs.extend(self.after_event(passed, state).and_then(|after| self.cost(passed + 1, after)));
-            for (_, after) in self.steps(state) {
-                costs.extend(self.cost(passed, after).map(|cost| cost + 1));
-            }
-            let cost = costs.into_iter().min();
-            self.known.insert((passed, state), cost);
-            cost
-        }
-
-        fn walk(&mut self) -> Option<Vec<Step>> {
-            let location = self.location;
-            let mut state = Local::in_memory(self.log.homes[usize::from(location)].initial);
-            let mut left = self.cost(0, state)?;
-            let (mut passed, mut schedule) = (0, Vec::new());
-            while left > 0 {
-                let mut steps = self.steps(state).into_iter();
-                if let Some((machine, after)) = steps.find(|&(_, after)| self.cost(passed, after) == Some(left - 1)) {
-                    let before = passed.checked_sub(1).map_or(0, |last| self.events[last].0);
-                    schedule.push(Step { before, location, machine });
-                    (state, left) = (after, left - 1);
-                } else {
-                    (state, passed) = (self.after_event(passed, state)?, passed + 1);
-                }
-            }
-            Some(schedule)
-        }
-    }
-
-    /// Large logs too: simulated, with one load changed, and such that few runs explain them.
-    #[test]
-    fn the_first_way_is_the_one_that_costs_lead() {
-        let mut random = Random::new(41);
-        let (mut schedules, mut steps) = (0, 0);
-        for round in 0..600 {
-            let (locations, events) = (random.between(1, 3), random.between(1, 128));
-            let shape = Shape { locations, events, ..Shape::random(&mut random) };
-            let log = if round % 3 == 0 { narrow(&mut random, &shape, 3) } else { plausible(&mut random, &shape) };
-            let log = if round % 3 == 1 { change_one_load(&mut random, &log, shape.values) } else { log };
-            // The corpus has records of another build of this crate; the bytes are the same.
-            let log = read(&encode(&log)).unwrap();
-            for location in 0..locations as u8 {
-                let found = Shortest::default().run(&log, location, events).ok();
-                assert_eq!(found, Costs::of(&log, location).walk(), "location {location} of {log:?}");
-                schedules += usize::from(found.is_some());
-                steps += found.map_or(0, |found| found.len());
-            }
-        }
-        assert!(schedules > 800 && steps > 1500, "{schedules} schedules, {steps} steps");
+        self.numbers.extend(log.numbers_at(location, events));
     }
 }

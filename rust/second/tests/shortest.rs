@@ -4,12 +4,14 @@
 use corpus::marked::{apart_and_together, journal_and_index, marked_logs, patterns, Marked};
 use corpus::{change_one_load, crash, litmus, narrow, plain, plausible, power_loss, power_on, random_log, set_crash};
 use corpus::{hard, shared, some_operations, two_kinds, widened, Random, Shape};
-use second::{judge, whole, Event, Log, Operation, Operation::*, Step, Verdict};
+use second::{judge, judge_by_costs, whole, Event, Log, Operation, Operation::*, Step, Verdict};
 
-/// The numbers of the steps of an allowed log, by the search of one location at a time and by the one over the whole
+/// The numbers of the steps of an allowed log, by both searches of one location at a time and by the one over the whole
 /// system.
 fn schedule(log: &Log) -> Option<Vec<(u8, u8, u8)>> {
-    let schedule = match judge(log) {
+    let verdict = judge(log);
+    assert_eq!(verdict, judge_by_costs(log), "{log:?}");
+    let schedule = match verdict {
         Verdict::Allowed(steps) => Some(steps),
         Verdict::Impossible(_) => None,
     };
@@ -157,6 +159,26 @@ fn many_steps() {
     assert_eq!(schedule(&hard::overwritten(126, 1)), Some(vec![(1, 0, 2), (1, 0, 0)]));
     assert_eq!(schedule(&hard::overwritten(126, 126)), Some(vec![(126, 0, 2)]));
     assert_eq!(schedule(&hard::never_written(20)), Some((1..=20).map(|load| (2 * load, 0, 2)).collect()));
+}
+
+/// Large logs too: simulated, with one load changed, and such that few runs explain them.
+#[test]
+fn costs_lead_the_same_way() {
+    let mut random = Random::new(41);
+    let (mut schedules, mut steps) = (0, 0);
+    for round in 0..600 {
+        let (locations, events) = (random.between(1, 3), random.between(1, 128));
+        let shape = Shape { locations, events, ..Shape::random(&mut random) };
+        let log = if round % 3 == 0 { narrow(&mut random, &shape, 3) } else { plausible(&mut random, &shape) };
+        let log = if round % 3 == 1 { change_one_load(&mut random, &log, shape.values) } else { log };
+        let verdict = judge(&log);
+        assert_eq!(verdict, judge_by_costs(&log), "{log:?}");
+        if let Verdict::Allowed(found) = verdict {
+            schedules += 1;
+            steps += found.len();
+        }
+    }
+    assert!(schedules > 400 && steps > 1500, "{schedules} schedules, {steps} steps");
 }
 
 /// A step stands right behind an event that concerns its location, none behind the last event, and the edition makes no

@@ -1,6 +1,7 @@
 -- `cross` meets its contract.
 use borrow.Author.Needs.{needs}
-use Rattle.blocks.proofs.Crossing.{few, room, treadable, is-planned, crossable, crossed, crossed-end}
+use Rattle.blocks.proofs.Planning.{few, room}
+use Rattle.blocks.proofs.Crossing.{treadable, is-planned, crossable, crossed, crossed-end}
 use Rattle.blocks.proofs.blocks.cross.Statement.{statement}
 use Rattle.blocks.proofs.blocks.cross.Tie as tie
 

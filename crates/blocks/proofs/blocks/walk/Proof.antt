@@ -19,7 +19,8 @@ cross-requires : tie.Need-cross-requires Inv-loop μ-loop
 cross-requires c κs = c .before .before .before .loop .inv .ahead (c .before .if1 .taken) .0
 
 -- There is one segment more.
-in-block : (c : tie.Then1 Inv-loop μ-loop) → c .before .before .loop .l < c .before .before .before .before .args .b .count
+in-block : (c : tie.Then1 Inv-loop μ-loop)
+    → c .before .before .loop .l < c .before .before .before .before .args .b .count
 in-block c = c .before .before .loop .inv .ahead (c .if1 .taken) .0 .numbered .number
 
 add-l : tie.Need-add-l Inv-loop μ-loop

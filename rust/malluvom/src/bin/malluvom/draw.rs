@@ -37,7 +37,7 @@ pub fn command(words: &[OsString]) -> Result<u8, Failure> {
     Ok(0)
 }
 
-/// The log up to its first impossible event, which comes apart, with the silent steps of a run.
+/// The log up to its first impossible event, which comes apart, with the silent steps of its shortest run.
 fn explained(mut log: Log, bytes: &[u8]) -> Result<(Log, Schedule, Option<Event>), Failure> {
     let mut judge = Judge::new();
     let event = match judge.judge(bytes).map_err(Failure::new)? {

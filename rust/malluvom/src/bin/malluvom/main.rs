@@ -33,9 +33,9 @@ malluvom: a proved judge of CXL0 logs
   malluvom replay LOG VERDICT
         yes, or no and the number of events that pass before the first thing not possible
   malluvom explain LOG
-        an allowed log's run step by step, or why nothing explains an impossible event
+        an allowed log's shortest run step by step, or why nothing explains an impossible event
   malluvom draw LOG [--location L0] [-o SVG]
-        a picture of one location's run
+        a picture of one location's part of that run
 
 A file named - is standard input; what is written goes to standard output unless -o names a file. Exit status: 0;
 1 if a log is impossible or refused, or replay says no; 2 if something could not be done. The text form is described in
