@@ -7,12 +7,13 @@ use mathlib.Core.Bool.{Bool, true, false, cond}
 use mathlib.Core.List.{List, [], _∷_, _++_}
 use lib.Dec.{T}
 use Rattle.model.specs.Cxl0.{Location, Value, Topology, Event, Silent, Propagate, WriteBack}
+use Rattle.model.specs.ShortestAt.{KnownAfter}
 use Rattle.model.specs.Cxl0.{Action, event, silent, events}
 use Rattle.model.specs.OneLocation.{Local, Site, siteOf, eventAt, silentAt, concerns, enabledAt, effect}
 use Rattle.model.specs.OneLocation.{nextAt, afterAt}
 use Rattle.model.specs.Meaning.{meant}
 use Rattle.model.specs.declared.Event as declared
-use Rattle.model.proofs.Greedy.{KnownAfter, known-last}
+use Rattle.model.proofs.Greedy.{known-last}
 use Rattle.model.proofs.Payments.{possible-at, next-at}
 use Rattle.entries.specs.Entries.{shortOf}
 use Rattle.entries.specs.declared.Acted.{Acted}

@@ -10,10 +10,9 @@ use lib.Dec.{T}
 use Rattle.model.specs.Cxl0.{Location, Value, Topology, Event, event}
 use Rattle.model.specs.OneLocation.{Local, siteOf, eventAt, effect, HasRunAt}
 use Rattle.model.specs.OneLocation as model
-use Rattle.model.specs.ShortestAt.{RunOf, ShortestFrom}
+use Rattle.model.specs.ShortestAt.{RunOf, ShortestFrom, KnownAfter}
 use Rattle.model.specs.Paying.{Pays}
 use Rattle.model.specs.Words.{stepOfWord}
-use Rattle.model.proofs.Greedy.{KnownAfter}
 use Rattle.model.proofs.RunsOf.{halves}
 use Rattle.model.proofs.Payments.{AllAt, pays-more, pays-run}
 use Rattle.entries.specs.Entries.{siteMeant}

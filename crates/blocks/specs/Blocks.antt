@@ -7,10 +7,9 @@ use lib.Dec.{T}
 use lib.ListN.{length}
 use Rattle.model.specs.Cxl0.{Value, Topology, Event, event}
 use Rattle.model.specs.OneLocation.{Local, eventAt, effect, HasRunAt}
-use Rattle.model.specs.ShortestAt.{ShortestFrom}
+use Rattle.model.specs.ShortestAt.{ShortestFrom, KnownAfter}
 use Rattle.model.specs.Paying.{Pays}
 use Rattle.model.specs.Words.{stepOfWord}
-use Rattle.model.proofs.Greedy.{KnownAfter}
 use Rattle.masks.specs.Sets.{OneToSix}
 use Rattle.entries.specs.Entries.{siteMeant}
 use Rattle.entries.specs.declared.Site.{Site}

@@ -17,20 +17,15 @@ use Rattle.model.specs.Schedule.{Step, silentOf, due, later, steps, weav
 use Rattle.model.specs.OneLocation.{Local, silentAt, siteOf, enabledAt, effect, possibleAt, nextAt}
 use Rattle.model.specs.OneLocation.{runsAt, afterAt, HasRunAt}
 use Rattle.model.specs.Shortest.{Smaller}
-use Rattle.model.specs.ShortestAt.{RunOf, Within, ShortestFrom}
+use Rattle.model.specs.ShortestAt.{RunOf, Within, ShortestFrom, endsInEvent, KnownAfter}
 use Rattle.model.proofs.Weaving.{inOrder-cons, scheduleFrom-inOrder, weave-due, weave-event}
 use Rattle.model.proofs.Steps.{inOrder-lower, inOrder-append, silentAt-silentOf}
 use Rattle.model.proofs.Smallest.{smaller-nil, smaller-append, length-weaveFrom, shortest-runOf}
 use Rattle.model.proofs.Smallest.{shortest-schedule}
 use Rattle.model.proofs.RunsOf.{ownStep, length-silents, scheduleFrom-append, length-scheduleFrom}
-use Rattle.model.proofs.RunsOf.{endsInEvent, ends-nil, ends-behind, runOf-nil, runOf-event, runOf-step}
+use Rattle.model.proofs.RunsOf.{ends-nil, ends-behind, runOf-nil, runOf-event, runOf-step}
 use Rattle.model.proofs.RunsOf.{runOf-none, event-first, step-first, named-step, weave-runOf, runOf-append}
 use Rattle.model.proofs.RunsOf.{afterAt-append, Halves, halves, last-event}
-
--- The state after the events is known: every run of them from s that ends with the last one leads to s'.
-abbrev pub KnownAfter : Topology → Location → List Event → Local → Local → Type 0
-KnownAfter sys x es s s' =
-    (acts : List Action) → RunOf sys x es s acts → T (endsInEvent acts) → afterAt sys x acts s ≡ s'
 
 module _ (sys : Topology) (x : Location) where
   -- ---- how many silent steps suffice

@@ -14,7 +14,7 @@ use Rattle.model.specs.Schedule.{Step, silentOf, stepOf, steps, weaveFro
 use Rattle.model.specs.Sharers.{has}
 use Rattle.model.specs.OneLocation.{Local, silentAt, siteOf, enabledAt, effect, possibleAt, nextAt}
 use Rattle.model.specs.OneLocation.{runsAt, afterAt, ownSteps}
-use Rattle.model.specs.ShortestAt.{RunOf}
+use Rattle.model.specs.ShortestAt.{RunOf, endsInEvent}
 use Rattle.model.proofs.Tests.{and-i, and-l, and-r}
 use Rattle.model.proofs.Goes.{events-append}
 use Rattle.model.proofs.Gaps.{own-possible, own-next}
@@ -48,13 +48,6 @@ unfolding scheduleFrom silents
 length-scheduleFrom n [] = refl
 length-scheduleFrom n (event e ∷ acts) = length-scheduleFrom (suc n) acts
 length-scheduleFrom n (silent a ∷ acts) = ap suc (length-scheduleFrom n acts)
-
--- The last action of the list, if there is one, is an event.
-unfoldable pub endsInEvent : List Action → Bool
-endsInEvent [] = true
-endsInEvent (event e ∷ acts) = endsInEvent acts
-endsInEvent (silent a ∷ []) = false
-endsInEvent (silent a ∷ b ∷ acts) = endsInEvent (b ∷ acts)
 
 -- A silent step in front of a list that has an event leaves the end as it is.
 ends-more : (a : Silent) (acts : List Action) {e : Event} {es : List Event} → events acts ≡ e ∷ es

@@ -10,9 +10,9 @@ use mathlib.Core.List.{List, [], _∷_, _++_, map, map-append}
 use lib.Dec.{T}
 use Rattle.model.specs.Cxl0.{Topology, Event, event}
 use Rattle.model.specs.OneLocation.{eventAt, afterAt, possibleAt, nextAt}
-use Rattle.model.specs.ShortestAt.{RunOf}
+use Rattle.model.specs.ShortestAt.{RunOf, KnownAfter}
 use Rattle.model.proofs.RunsOf.{runOf-nil, runOf-event, runOf-append, afterAt-append}
-use Rattle.model.proofs.Greedy.{KnownAfter, shortest-free}
+use Rattle.model.proofs.Greedy.{shortest-free}
 use Rattle.entries.specs.Entries.{shortOf}
 use Rattle.entries.specs.declared.Acted.{Acted}
 use Rattle.entries.specs.declared.Site.{Site}

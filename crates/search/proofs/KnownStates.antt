@@ -13,11 +13,11 @@ use Rattle.model.specs.Cxl0.{Action, event, silent, events}
 use Rattle.model.specs.Sharers.{has}
 use Rattle.model.specs.OneLocation.{Local, Site, siteOf, eventAt, concerns, readableAt, enabledAt, effect}
 use Rattle.model.specs.OneLocation.{possibleAt, nextAt, afterAt}
-use Rattle.model.specs.ShortestAt.{RunOf}
+use Rattle.model.specs.ShortestAt.{RunOf, KnownAfter}
 use Rattle.model.proofs.Tests.{and-r, by-test, T→true, not→false}
 use Rattle.model.proofs.SilentSteps.{has→some}
 use Rattle.model.proofs.RunsOf.{step-first}
-use Rattle.model.proofs.Greedy.{KnownAfter, known-last}
+use Rattle.model.proofs.Greedy.{known-last}
 use Rattle.rows.specs.Rows.{state}
 use Rattle.rows.specs.Sites.{copyFrom}
 use Rattle.rows.proofs.RowSteps.{next-copy}

@@ -8,10 +8,10 @@ use mathlib.Core.List.{List, [], _∷_, _++_, map, map-append}
 use lib.ListN.{length, length-append}
 use Rattle.model.specs.Cxl0.{Topology}
 use Rattle.model.specs.OneLocation.{Local, startAt, HasRunAt}
-use Rattle.model.specs.ShortestAt.{ShortestFrom, ShortestAt}
+use Rattle.model.specs.ShortestAt.{ShortestFrom, ShortestAt, KnownAfter}
 use Rattle.model.specs.Words.{stepOfWord}
 use Rattle.model.proofs.RunsOf.{halves}
-use Rattle.model.proofs.Greedy.{KnownAfter, known-nil, known-append, shortest-nil, shortest-append}
+use Rattle.model.proofs.Greedy.{known-nil, known-append, shortest-nil, shortest-append}
 use Rattle.entries.specs.declared.Site.{Site}
 use Rattle.rows.specs.Rows.{state}
 use Rattle.rows.specs.Sites.{Describes}

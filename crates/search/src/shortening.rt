@@ -1,7 +1,7 @@
 // The shortest schedule of the events at one location. The walk goes on without a silent step as long as it can, and
-// keeps the last place where every run of the events before stands. Where it gets stuck, the block from there to the next
-// such place is explained with the fewest steps. If that has no run, neither have all events, and the search for any
-// schedule says how many of them have one.
+// keeps the last place where every run of the events before stands. Where it gets stuck, the block from there to the
+// next such place is explained with the fewest steps. If that has no run, neither have all events, and the search for
+// any schedule says how many of them have one.
 use crate::explaining::Found;
 use crate::explaining::explain;
 use blocks::blocks::block;
