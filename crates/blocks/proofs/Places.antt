@@ -66,7 +66,7 @@ silent-copy sys x (Propagate i y) s = either (silentAt x (Propagate i y)) _ s re
 silent-copy sys x (WriteBack y) s = either (silentAt x (WriteBack y)) _ s refl
 
 -- Silent steps leave the value of the copies, and events change it as they say.
-copies-run : (sys : Topology) (x : Location) (run : List Action) (s : Local)
+pub copies-run : (sys : Topology) (x : Location) (run : List Action) (s : Local)
     → afterAt sys x run s .copy ≡ copyFrom x (s .copy) (events run)
 unfolding afterAt events copyFrom
 copies-run sys x [] s = refl

@@ -61,7 +61,7 @@ fn closing(kind: u8) -> u8
 }
 
 // The segments from a place on, of k events.
-pub fn split(w: &mut [u64], site: Site, p: Place, k: usize) -> Block
+pub(crate) fn split(w: &mut [u64], site: Site, p: Place, k: usize) -> Block
     requires { ⌜ Splittable site p k (now w) ⌝ }
     ensures { λ r. ⌜ Split site p k (now (w .entry)) r (now (w .exit)) ⌝ }
 {

@@ -139,7 +139,15 @@ fn pay(
 }
 
 // Walks through segment l, which is s, to its last gap.
-pub fn tread(w: &mut [u64], site: Site, b: Block, l: usize, s: Segment, q: Task, p: Stand) -> Stand
+pub(crate) fn tread(
+    w: &mut [u64],
+    site: Site,
+    b: Block,
+    l: usize,
+    s: Segment,
+    q: Task,
+    p: Stand,
+) -> Stand
     requires { ⌜ Treadable site b l q p (now w) × (s ≡ segmentIn (now w) l) ⌝ }
     ensures { λ r. ⌜ Trodden site b l p (now (w .entry)) r (now (w .exit)) ⌝ }
 {

@@ -143,7 +143,7 @@ fn gap(w: &[u64], q: Task, t: usize, level: u64, rest: u64, under: u64) -> u64
 }
 
 // Makes the masks of a level from gap `from` on, out of those of the level below; says whether any has changed.
-pub fn pass(w: &mut [u64], q: Task, from: usize, level: u64) -> bool
+fn pass(w: &mut [u64], q: Task, from: usize, level: u64) -> bool
     requires { ⌜ Passable q from level (now w) ⌝ }
     ensures { λ r. ⌜ Passed q from level (now (w .entry)) r (now (w .exit)) ⌝ }
 {

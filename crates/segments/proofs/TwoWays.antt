@@ -13,8 +13,8 @@ use Rattle.segments.specs.Weighing.{sparedOf}
 use Rattle.segments.proofs.Rests.{lesser-min, plus-min}
 
 -- A number is below what another can spare, or that is at most the sum of it and what must remain.
-spare : (a other least n : ℕ) → least ≤ n → sparedOf other least ≤ a → (FAR ≤ a) ⊎ (other ≤ a + n)
-spare a other least n h s =
+spared-bound : (a other least n : ℕ) → least ≤ n → sparedOf other least ≤ a → (FAR ≤ a) ⊎ (other ≤ a + n)
+spared-bound a other least n h s =
     elim (decLe FAR other) [
       | yes far ↦ inl (rw (le-leb FAR other far) at s)
       | no far ↦ let t = rw (lt-leb FAR other (omega arith)) at s in inr (omega arith)
@@ -63,7 +63,7 @@ module _ (Pay : (n x : ℕ) → Type 0) (Back Kept : ℕ → Type 0)
           elim (decLe (sparedOf other least) a) [
             | yes s ↦
                 let paid : other ≤ x =
-                ⊎-elim (λ f. absurd (omega arith)) (λ f. omega arith) (spare a other least n more s)
+                ⊎-elim (λ f. absurd (omega arith)) (λ f. omega arith) (spared-bound a other least n more s)
                 in
                 omega (arith, lesser-min other (plus keep n))
             | no s ↦
