@@ -9,5 +9,6 @@ pub mod Links
 pub mod TwoWays
 pub mod Weighings
 pub mod Tasks
+pub mod Eased
 pub mod OneMore
 pub mod Weighed

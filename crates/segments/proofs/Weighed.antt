@@ -29,7 +29,7 @@ use Rattle.segments.specs.Costs.{lesser, plus, restFrom, otherFrom, Orde
 use Rattle.segments.specs.Segments.{Costs, IsSegment, Means, Backs}
 use Rattle.segments.specs.Segments.{stretchOf, clearedOf, againOf, behindOf}
 use Rattle.segments.specs.Weighing.{Backable, Backed, taskOf, keepingOf, Keepable, Keeps, sparedOf}
-use Rattle.segments.specs.Weighing.{Weighable, Weighed}
+use Rattle.segments.specs.Weighing.{Free, Freeable, Weighable, Weighed}
 use Rattle.segments.proofs.Rests.{SameFrom, same-from, rests-same, others-same, orderly-same}
 use Rattle.segments.proofs.Rests.{rest-far}
 use Rattle.segments.proofs.Kept.{Kept, kept-then, kept-between, kept-costs, kept-segment}
@@ -38,6 +38,7 @@ use Rattle.segments.proofs.OneMore.{orderly-more, by-value, means-more}
 use Rattle.segments.proofs.Closing.{left-behind, left-back}
 use Rattle.segments.proofs.Weighings.{Found, RightCosts, found-right}
 use Rattle.segments.proofs.Tasks.{Within, tasked-of, tasked-keeping, ready-of, ready-keeping}
+use Rattle.segments.proofs.Eased.{free-kept}
 
 -- ---- numbers that fit
 
@@ -161,6 +162,20 @@ module _ {site : Site} {b : Block} {l least : ℕ} {w : List ℕ} (ok : Weighabl
     another : eqb (suc (s .copy)) (s .copy) ≡ false
     another = ne-eqb (suc (s .copy)) (s .copy) (λ e. absurd (omega arith))
 
+    -- It may be asked whether the segment needs a silent step.
+    pub freeable : Freeable site s v
+    freeable =
+        let here = kept-backs .segments l in
+        record {
+          room = room-backs;
+          owner = ok .owner;
+          order = segment .order;
+          few = le-trans (segment .inside) short;
+          code = segment-code w l;
+          known = rw here at (segment-backs .known);
+          inner = rw here at (segment-backs .inner);
+        }
+
     pub ready-same : Ready (sameTask site b l w r) (s .first) v
     ready-same = ready-task (behindOf s cleared back) true (s .copy) (eq-eqb (s .copy) (s .copy) refl)
 
@@ -172,10 +187,17 @@ module _ {site : Site} {b : Block} {l least : ℕ} {w : List ℕ} (ok : Weighabl
           ready-kept (otherTask site b l w r) (s .first) (le-trans (segment .inside) short)
           (first .frame) (ready-task (behindOf s cleared next) false (suc (s .copy)) another)
 
+      -- A segment that needs no silent step needs none still.
+      pub free-first : Free s v → Free s v1
+      free-first = free-kept s (le-trans (segment .inside) short) (first .frame)
+
       module _ {other : ℕ} {v2 : List ℕ}
           (second : Fewest (otherTask site b l w r) (s .first) (s .code) FAR v1 other v2) where
         levels : OnlyLevels (s .first) (s .end) v v2
         levels = only-then (first .frame) (second .frame)
+
+        pub free-second : Free s v → Free s v2
+        free-second = free-kept s (le-trans (segment .inside) short) levels
 
         pub keepable : Keepable site s (sparedOf other least) v2
         keepable =

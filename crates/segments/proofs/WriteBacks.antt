@@ -255,6 +255,25 @@ module _ {site : Site} {b : Block} {l : ℕ} {s : Segment} {back zeta : ℕ} {w 
       let same = fill-read so (t - 1) (omega (arith, fill-room so)) in
       fill-turn (omega arith) from e (read ∙ same) turn
 
+  -- A reset is at a gap of the segment.
+  pub fill-reaches : {t now again : ℕ} {bounds : Bounds} {w' : List ℕ} → Filling site b s w t now again bounds w'
+      → s .reset < t → s .first < t
+  fill-reaches so less =
+      let resets : s .reset < s .end → s .first ≤ s .reset =
+      rw (can .segment) (λ inside. can .ready .segment .resets inside .0)
+      in
+      omega (arith, resets (omega (arith, so .inside)))
+
+  -- Up to the first reset, one gap more has the number of the gap after it.
+  pub fill-early : {t now again : ℕ} {bounds : Bounds} {w' : List ℕ}
+      → s .first < t → t ≤ s .reset → Filling site b s w t now again bounds w'
+      → Filling site b s w (t - 1) now again bounds (set w' (BACKS + (t - 1)) now)
+  fill-early {t} {now} {again} {bounds} {w'} first before so =
+      let one : t ≡ suc (t - 1) = omega arith in
+      let from = subst (λ (n : ℕ). Filling site b s w n now again bounds w') one so in
+      let keeps = early (t - 1) (omega arith) (omega (arith, so .inside)) (omega arith) in
+      fill-kept (omega arith) from keeps (λ h. absurd (omega arith))
+
   -- ---- the last gap, and the first
 
   -- The number of the last gap.

@@ -9,8 +9,10 @@ use Rattle.model.specs.Cxl0.{Value}
 use Rattle.masks.specs.Sets.{OneToSix}
 use Rattle.entries.specs.Entries.{siteMeant}
 use Rattle.entries.specs.declared.Site.{Site}
+use Rattle.rows.specs.Sites.{Known}
 use Rattle.scratch.specs.Layout.{WORDS, MOST, LEVELS, BACKS, SEGMENTS, OnlyIn}
-use Rattle.levels.specs.Stretches.{FAR, Stretch}
+use Rattle.scratch.specs.Words.{eventIn, structIn}
+use Rattle.levels.specs.Stretches.{FAR, Stretch, Finishes, Inner}
 use Rattle.levels.specs.Tasks.{backIn, Ready, Tasked, Counted}
 use Rattle.levels.specs.declared.Task.{Task}
 use Rattle.segments.specs.Words.{segmentIn, costsIn}
@@ -87,6 +89,28 @@ keepingOf site s =
       low = 0;
       high = 0;
     }
+
+-- ---- segments that need no silent step
+
+-- Every stretch of the task has no step to pay before its last gap, from code c at gap `from`.
+abbrev pub Eased : Task → (from c : ℕ) → List ℕ → Type 0
+Eased task from c w = (q : Stretch) → Tasked task from w q → Finishes q from c (q .last)
+
+-- So it is with every task of the segment.
+abbrev pub Free : Segment → List ℕ → Type 0
+Free s w = (task : Task) → task .end ≡ s .end → task .closing ≡ s .closing → Eased task (s .first) (s .code) w
+
+-- The events of the segment are known, and events of a stretch whose copies have its value.
+pub record Freeable (site : Site) (s : Segment) (w : List ℕ) : Type 0 where
+  pub room : WORDS ≤ length w
+  pub owner : OneToSix (site .owner .0)
+  pub order : s .first ≤ s .end
+  pub few : s .end ≤ MOST
+  pub code : s .code < 64
+  pub known : (t : ℕ) → s .first ≤ t → t < s .end → Known (structIn w t)
+  pub inner : (t : ℕ) → s .first ≤ t → t < s .end → Inner (s .copy) (eventIn w t)
+
+-- ---- keeping a memory value
 
 -- What keeping a memory value asks and leaves: of a segment without a reset, the fewest steps of its task.
 pub record Keepable (site : Site) (s : Segment) (below : ℕ) (w : List ℕ) : Type 0 where

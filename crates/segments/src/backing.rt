@@ -74,7 +74,7 @@ pub fn fill_backs(
         back,
     );
     w[BACKS + t] = now;
-    while s.first < t {
+    while s.reset < t {
         t -= 1;
         let e = get_event(&*w, t);
         if resets(site, e) {
@@ -85,6 +85,11 @@ pub fn fill_backs(
                 again = FAR;
             }
         }
+        w[BACKS + t] = now;
+    }
+    // Up to the first reset, nothing changes what is left to pay.
+    while s.first < t {
+        t -= 1;
         w[BACKS + t] = now;
     }
     bounds

@@ -1,6 +1,7 @@
 // The costs of a segment, once those after it are known.
 use crate::backing::Bounds;
 use crate::backing::fill_backs;
+use crate::freeing::free;
 use crate::resting::add;
 use crate::resting::least_of;
 use crate::resting::other;
@@ -17,11 +18,13 @@ use levels::Task;
 use levels::fewest;
 use model::Machine;
 ghost use mathlib.Core.Path.{_≡_};
-ghost use Prim.Native.Nat.{_+_, _≤_};
+ghost use mathlib.Core.Bool.{true};
+ghost use Prim.Native.Nat.{_+_, _≤_, _<_};
 ghost use Rattle.levels.specs.Stretches.{FAR};
+ghost use Rattle.levels.specs.Tasks.{Ready, Fewest};
 ghost use Rattle.segments.specs.Segments.{clearedOf, againOf, behindOf};
 ghost use Rattle.segments.specs.Weighing.{taskOf, keepingOf, Restable, sparedOf, Keepable, Keeps};
-ghost use Rattle.segments.specs.Weighing.{Weighable, Weighed};
+ghost use Rattle.segments.specs.Weighing.{Free, Eased, Weighable, Weighed};
 
 // The segment with memory that has the value of the copies, or not, and `last` to pay behind it.
 pub fn task(site: Site, s: Segment, same: bool, last: u64, bounds: Bounds) -> Task
@@ -96,15 +99,30 @@ pub fn behind(s: Segment, after: u64, kept: u64) -> u64
     if s.reset < s.end { after } else { kept }
 }
 
-// What keeping a memory value costs in a segment. From `below` on, that is no better than any value.
-fn keep(w: &mut [u64], site: Site, s: Segment, below: u64) -> u64
+// The fewest steps to pay from code c at gap `from`, if they are fewer than `below`, else FAR. If the task is easy, no
+// step is to pay before its last gap; then there is nothing to seek where no write-back costs less either.
+fn cheapest(w: &mut [u64], q: Task, from: usize, c: u8, below: u64, easy: bool) -> u64
+    requires { ⌜ Ready q from (now w) × (c < 64) × (below ≤ FAR) ⌝ }
+    requires { ⌜ (easy ≡ true → Eased q from c (now w)) ⌝ }
+    ensures { λ r. ⌜ Fewest q from c below (now (w .entry)) r (now (w .exit)) ⌝ }
+{
+    if easy & (q.last <= q.low) & (q.low < below) {
+        return q.low;
+    }
+    fewest(w, q, from, c, below)
+}
+
+// What keeping a memory value costs in a segment, which needs no step if it is easy. From `below` on, that is no better
+// than any value.
+fn keep(w: &mut [u64], site: Site, s: Segment, below: u64, easy: bool) -> u64
     requires { ⌜ Keepable site s below (now w) ⌝ }
+    requires { ⌜ (easy ≡ true → Free s (now w)) ⌝ }
     ensures { λ r. ⌜ Keeps site s below (now (w .entry)) r (now (w .exit)) ⌝ }
 {
     if s.reset < s.end {
         return FAR;
     }
-    fewest(w, keeping(site, s), s.first, s.code, below)
+    cheapest(w, keeping(site, s), s.first, s.code, below, easy)
 }
 
 // How much more one number is than another; FAR is more than any.
@@ -128,21 +146,24 @@ pub fn weigh(w: &mut [u64], site: Site, b: Block, l: usize, least: u64) -> u64
     let next = other(&*w, b, l + 1);
     let after = cleared(&*w, site, b, l, s);
     let bounds = fill_backs(w, site, b, l, s, back, again(site, s, after));
-    let same = fewest(
+    let easy = free(&*w, site, s);
+    let same = cheapest(
         w,
         task(site, s, true, behind(s, after, back), bounds),
         s.first,
         s.code,
         FAR,
+        easy,
     );
-    let other = fewest(
+    let other = cheapest(
         w,
         task(site, s, false, behind(s, after, next), bounds),
         s.first,
         s.code,
         FAR,
+        easy,
     );
-    let keep = keep(w, site, s, spared(other, least));
+    let keep = keep(w, site, s, spared(other, least), easy);
     put_costs(
         w,
         l,

@@ -20,8 +20,10 @@ use Rattle.segments.specs.declared.backing.Bounds.{Bounds}
 use Rattle.segments.specs.Words.{segmentIn, CostsFit, CostsPut}
 use Rattle.segments.specs.Costs.{lesser, plus, restFrom, otherFrom}
 use Rattle.segments.specs.Segments.{clearedOf, againOf, behindOf}
+use Rattle.segments.specs.Weighing.{Eased, Free, Freeable}
 use Rattle.segments.specs.Weighing.{Restable, Backable, Backed, taskOf, Keepable, Keeps, sparedOf, Weighed}
 use Rattle.segments.proofs.Weighed.{segment-code, sameTask, otherTask, least-far, backable, bounds-far}
+use Rattle.segments.proofs.Weighed.{freeable, free-first, free-second}
 use Rattle.segments.proofs.Weighed.{ready-same, ready-other, keepable, room-there, numbers-fit, weighed}
 use Rattle.segments.proofs.weighing.weigh.Statement.{statement}
 use Rattle.segments.proofs.weighing.weigh.Tie as tie
@@ -48,6 +50,12 @@ fewest-again : {t t' : Task} {g g' : Segment} {below r : ℕ} {w w' : List ℕ} 
 fewest-again {t' = t'} {g} {below = below} {r} {w} {w'} task segment fewest =
     subst (λ (h : Segment). Fewest t' (h .first) (h .code) below w r w') segment
     (subst (λ (u : Task). Fewest u (g .first) (g .code) below w r w') task fewest)
+
+eased-again : (site : Site) (same : Bool) (n : ℕ) (r : Bounds) {t : Task} {g g' : Segment} {w : List ℕ}
+    → t ≡ taskOf site g same n r → g ≡ g' → Free g' w → Eased t (g .first) (g .code) w
+eased-again site same n r {t} {w = w} task segment free =
+    subst (λ (h : Segment). Free h w) (sym segment) free t (ap (λ (u : Task). u .end) task)
+    (ap (λ (u : Task). u .closing) task)
 
 -- ---- what is read of the segments
 
@@ -144,21 +152,39 @@ backed : (c : tie.After-fill-backs) → let s = start (numbered c) in
     Backed (s .args .site) (s .args .b) (s .args .l) (words s) (c .fill-backs .result) (filled c)
 backed c = c .fill-backs .ensures
 
+-- ---- silent steps
+
+free-requires : tie.Need-free-requires
+free-requires c κs =
+    let f = c .before .before .before in
+    let r = numbered f in
+    subst (λ (g : Segment). Freeable (start r .args .site) g (filled f)) (sym (segment-right r))
+    (freeable (start r .pre) (backed f))
+
+-- The call that filled in the write-backs, before that which has asked for silent steps.
+abbrev unasked : tie.After-free → tie.After-fill-backs
+unasked c = c .before .before .before .before
+
+-- If it says so, the segment needs none.
+steps-none : (c : tie.After-free) → c .free .result ≡ true → let f = unasked c in
+    Free (segment (start (numbered f))) (filled f)
+steps-none c none =
+    let f = unasked c in
+    subst (λ (g : Segment). Free g (filled f)) (segment-right (numbered f)) (c .free .ensures none)
+
 task-requires : tie.Need-task-requires
 task-requires c κs =
-    let f = c .before .before .before .before in
-    bounds-far (start (numbered f) .pre) (backed f)
-
-task-requires-2 : tie.Need-task-requires-2
-task-requires-2 c κs =
-    let f = c .before .before .before .before .before .before .before .before .before .before in
+    let f = unasked (c .before .before) in
     bounds-far (start (numbered f) .pre) (backed f)
 
 -- ---- the fewest steps with the value of the copies in memory
 
--- The call that filled in the write-backs, and the task that is made.
+-- The call that has asked for silent steps, that which filled in the write-backs, and the task that is made.
+abbrev asking : tie.After-task → tie.After-free
+asking c = c .before .before .before
+
 abbrev filling : tie.After-task → tie.After-fill-backs
-filling c = c .before .before .before .before .before
+filling c = unasked (asking c)
 
 same-task : (c : tie.After-task) → let f = filling c in let s = start (numbered f) in
     c .task .result ≡ sameTask (s .args .site) (s .args .b) (s .args .l) (words s) (f .fill-backs .result)
@@ -168,24 +194,26 @@ same-task c =
     let last = behind-again (c .before .behind .ensures) (segment-right r) (cleared-right r) (back-right r) in
     task-again (start r .args .site) true (f .fill-backs .result) (c .task .ensures) (segment-right r) last
 
-fewest-requires : tie.Need-fewest-requires
-fewest-requires c κs =
+cheapest-requires : tie.Need-cheapest-requires
+cheapest-requires c κs =
     let f = filling c in
-    let r = numbered f in (
-      ready-again (sym (same-task c)) (sym (segment-right r)) (ready-same (start r .pre) (backed f)),
-      code-right r,
-      le-refl FAR,
+    let r = numbered f in
+    let ready = ready-again (sym (same-task c)) (sym (segment-right r)) (ready-same (start r .pre) (backed f)) in (
+      (ready, code-right r, le-refl FAR),
+      λ easy.
+          eased-again (start r .args .site) true (c .before .behind .result) (f .fill-backs .result)
+          (c .task .ensures) (segment-right r) (steps-none (asking c) easy),
     )
 
-same-found : (c : tie.After-fewest) → let f = filling (c .before) in let s = start (numbered f) in
+same-found : (c : tie.After-cheapest) → let f = filling (c .before) in let s = start (numbered f) in
     Fewest (sameTask (s .args .site) (s .args .b) (s .args .l) (words s) (f .fill-backs .result))
-    (segment s .first) (segment s .code) FAR (filled f) (c .fewest .result) (c .fewest .last .0)
+    (segment s .first) (segment s .code) FAR (filled f) (c .cheapest .result) (c .cheapest .last .0)
 same-found c =
-    fewest-again (same-task (c .before)) (segment-right (numbered (filling (c .before)))) (c .fewest .ensures)
+    fewest-again (same-task (c .before)) (segment-right (numbered (filling (c .before)))) (c .cheapest .ensures)
 
 -- ---- and with an unread value
 
-abbrev first : tie.After-task2 → tie.After-fewest
+abbrev first : tie.After-task2 → tie.After-cheapest
 first c = c .before .before .before .before .before
 
 abbrev filling-2 : tie.After-task2 → tie.After-fill-backs
@@ -199,23 +227,33 @@ other-task c =
     let last = behind-again (c .before .behind2 .ensures) (segment-right r) (cleared-right r) (next-right r) in
     task-again (start r .args .site) false (f .fill-backs .result) (c .task2 .ensures) (segment-right r) last
 
-fewest-requires-2 : tie.Need-fewest-requires-2
-fewest-requires-2 c κs =
+task-requires-2 : tie.Need-task-requires-2
+task-requires-2 c κs =
+    let f = filling (c .before .before .before .before .before) in
+    bounds-far (start (numbered f) .pre) (backed f)
+
+cheapest-requires-2 : tie.Need-cheapest-requires-2
+cheapest-requires-2 c κs =
     let f = filling-2 c in
     let r = numbered f in
     let ready = ready-other (start r .pre) (backed f) (same-found (first c)) in
-    (ready-again (sym (other-task c)) (sym (segment-right r)) ready, code-right r, le-refl FAR)
+    let free = free-first (start r .pre) (backed f) (same-found (first c)) in (
+      (ready-again (sym (other-task c)) (sym (segment-right r)) ready, code-right r, le-refl FAR),
+      λ easy.
+          eased-again (start r .args .site) false (c .before .behind2 .result) (f .fill-backs .result)
+          (c .task2 .ensures) (segment-right r) (free (steps-none (asking (first c .before)) easy)),
+    )
 
-other-found : (c : tie.After-fewest2) → let f = filling-2 (c .before) in let s = start (numbered f) in
+other-found : (c : tie.After-cheapest2) → let f = filling-2 (c .before) in let s = start (numbered f) in
     Fewest (otherTask (s .args .site) (s .args .b) (s .args .l) (words s) (f .fill-backs .result))
     (segment s .first) (segment s .code) FAR
-    (first (c .before) .fewest .last .0) (c .fewest2 .result) (c .fewest2 .last .0)
+    (first (c .before) .cheapest .last .0) (c .cheapest2 .result) (c .cheapest2 .last .0)
 other-found c =
-    fewest-again (other-task (c .before)) (segment-right (numbered (filling-2 (c .before)))) (c .fewest2 .ensures)
+    fewest-again (other-task (c .before)) (segment-right (numbered (filling-2 (c .before)))) (c .cheapest2 .ensures)
 
 -- ---- keeping a memory value
 
-abbrev second : tie.After-spared → tie.After-fewest2
+abbrev second : tie.After-spared → tie.After-cheapest2
 second c = c .before .before .before .before
 
 abbrev filling-3 : tie.After-spared → tie.After-fill-backs
@@ -226,20 +264,27 @@ keep-requires c κs =
     let f = filling-3 c in
     let r = numbered f in
     let site = start r .args .site in
-    let v = second c .fewest2 .last .0 in
+    let v = second c .cheapest2 .last .0 in
     let there =
     keepable (start r .pre) (backed f) (same-found (first (second c .before))) (other-found (second c))
     in
-    subst (λ (g : Segment). Keepable site g (c .spared .result) v) (sym (segment-right r))
-    (subst (λ (n : ℕ). Keepable site (segment (start r)) n v) (sym (c .spared .ensures)) there)
+    let free =
+    free-second (start r .pre) (backed f) (same-found (first (second c .before))) (other-found (second c))
+    in (
+      subst (λ (g : Segment). Keepable site g (c .spared .result) v) (sym (segment-right r))
+          (subst (λ (n : ℕ). Keepable site (segment (start r)) n v) (sym (c .spared .ensures)) there),
+      λ easy.
+          subst (λ (g : Segment). Free g v) (sym (segment-right r))
+          (free (steps-none (asking (first (second c .before) .before)) easy)),
+    )
 
 keep-found : (c : tie.After-keep) → let s = start (numbered (filling-3 (c .before))) in
-    Keeps (s .args .site) (segment s) (sparedOf (second (c .before) .fewest2 .result) (s .args .least))
-    (second (c .before) .fewest2 .last .0) (c .keep .result) (c .keep .last .0)
+    Keeps (s .args .site) (segment s) (sparedOf (second (c .before) .cheapest2 .result) (s .args .least))
+    (second (c .before) .cheapest2 .last .0) (c .keep .result) (c .keep .last .0)
 keep-found c =
     let r = numbered (filling-3 (c .before)) in
     let site = start r .args .site in
-    let v = second (c .before) .fewest2 .last .0 in
+    let v = second (c .before) .cheapest2 .last .0 in
     let found = c .keep in
     subst (λ (n : ℕ). Keeps site (segment (start r)) n v (found .result) (found .last .0)) (c .before .spared .ensures)
     (subst (λ (g : Segment). Keeps site g (c .before .spared .result) v (found .result) (found .last .0))
@@ -252,8 +297,8 @@ abbrev numbers : tie.After-keep → ℕ → costs.Costs
 numbers c n =
     record {
       keep = c .keep .result;
-      other = second (c .before) .fewest2 .result;
-      same = first (second (c .before) .before) .fewest .result;
+      other = second (c .before) .cheapest2 .result;
+      same = first (second (c .before) .before) .cheapest .result;
       back = n;
     }
 
@@ -328,12 +373,13 @@ weigh-spec =
     cleared-requires
     (λ c κs. search needs)
     fill-backs-requires
+    free-requires
     (λ c κs. search needs)
     task-requires
-    fewest-requires
+    cheapest-requires
     (λ c κs. search needs)
     task-requires-2
-    fewest-requires-2
+    cheapest-requires-2
     (λ c κs. search needs)
     keep-requires
     put-costs-requires
