@@ -1,7 +1,8 @@
 -- A segment without a copy: there is no silent step before the next store, so that what is left to pay at a gap is what
 -- is left at the next one, or there is no run.
-use Prim.Native.Nat.{ℕ, suc, _-_, _<_}
-use native.Mathlib.Nat.{le-refl}
+use Prim.Native.Nat.{ℕ, suc, _-_, _≤_, _<_}
+use native.Mathlib.Nat.{le-refl, le-trans}
+use native.Mathlib.Decide.{decLe}
 use native.Mathlib.Omega.{arith}
 use mathlib.Core.Path.{_≡_, refl, sym, ap, _∙_}
 use mathlib.Core.Logic.{_↔_, _≢_}
@@ -98,6 +99,18 @@ module _ (k : Site) (u : Value) where
       differs (eqb→eq m (e .value) (rw load at passes) ∙ reads)
 
 -- ---- what is left to pay
+
+-- It is one number.
+module _ {k : Site} {w : List ℕ} {n t : ℕ} {u : Value} {c : ℕ} {m : Value} where
+  costs-least : {r r' : ℕ} → Costs k w n t u c m r → Costs k w n t u c m r' → r ≤ r'
+  costs-least {r} {r'} a b =
+      elim (decLe FAR r') [
+        | yes h ↦ le-trans (a .most) h
+        | no h ↦ a .exact r' (omega arith) .0 (b .exact r' (omega arith) .1 (le-refl r'))
+      ]
+
+  pub costs-one : {r r' : ℕ} → Costs k w n t u c m r → Costs k w n t u c m r' → r ≡ r'
+  costs-one a b = omega (arith, costs-least a b, costs-least b a)
 
 module _ (k : Site) (w : List ℕ) (n : ℕ) (u : Value) (t : ℕ) (h : t < n) (inner : Inner u (eventIn w t)) where
   abbrev memory-next : Value → Value

@@ -9,6 +9,7 @@ pub mod Links
 pub mod TwoWays
 pub mod Weighings
 pub mod Tasks
-pub mod Eased
+pub mod Unmoved
+pub mod Cheapest
 pub mod OneMore
 pub mod Weighed

@@ -1,12 +1,12 @@
 -- One segment more is weighed: what its stretches were found to cost is right, and so is what stood there before.
-use Prim.Native.Nat.{ℕ, suc, _+_, _*_, _≤_, _<_}
+use Prim.Native.Nat.{ℕ, zero, suc, _+_, _-_, _*_, _≤_, _<_}
 use native.Mathlib.Nat.{le-refl, le-trans}
 use native.Mathlib.Decide.{decLe}
 use native.Mathlib.Omega.{arith}
 use mathlib.Core.Path.{_≡_, refl, _∙_}
 use mathlib.Core.Bool.{Bool, true, false}
 use mathlib.Core.List.{List}
-use borrow.Author.Tests.{eq-eqb, ne-eqb, lt-ltb, le-leb, lt-leb}
+use borrow.Author.Tests.{eq-eqb, ne-eqb, lt-ltb, le-ltb, le-leb, lt-leb}
 use lib.Dec.{eqb}
 use lib.ListN.{length}
 use Rattle.model.specs.Cxl0.{Value}
@@ -14,31 +14,34 @@ use Rattle.model.specs.OneLocation as sites
 use Rattle.entries.specs.Entries.{siteMeant}
 use Rattle.entries.specs.declared.Site.{Site}
 use Rattle.scratch.specs.Layout.{WORDS, MOST, LEVELS, BACKS, SEGMENTS, OnlyIn}
+use Rattle.scratch.specs.Words.{eventIn}
 use Rattle.scratch.proofs.Frames.{only-then, only-wider}
 use Rattle.levels.specs.Stretches.{FAR}
 use Rattle.levels.specs.declared.Task.{Task}
-use Rattle.levels.specs.Tasks.{Tasked, Ready, Fewest, OnlyLevels}
+use Rattle.levels.specs.Tasks.{backIn, Tasked, Ready, Fewest, OnlyLevels}
 use Rattle.levels.proofs.Stretching.{ending, dry}
 use Rattle.levels.proofs.Tasks.{tasked-kept, ready-kept}
 use Rattle.segments.specs.declared.words.Segment.{Segment}
 use Rattle.segments.specs.declared.words.Block.{Block}
 use Rattle.segments.specs.declared.words.Costs as costs
 use Rattle.segments.specs.declared.backing.Bounds.{Bounds}
+use Rattle.segments.specs.declared.seeing.Seen.{Seen}
 use Rattle.segments.specs.Words.{segmentIn, CostsFit, CostsPut}
 use Rattle.segments.specs.Costs.{lesser, plus, restFrom, otherFrom, Orderly}
 use Rattle.segments.specs.Segments.{Costs, IsSegment, Means, Backs}
 use Rattle.segments.specs.Segments.{stretchOf, clearedOf, againOf, behindOf}
 use Rattle.segments.specs.Weighing.{Backable, Backed, taskOf, keepingOf, Keepable, Keeps, sparedOf}
-use Rattle.segments.specs.Weighing.{Free, Freeable, Weighable, Weighed}
+use Rattle.segments.specs.Weighing.{Seeable, Even, Seeing, Cheap, Weighable, Weighed}
 use Rattle.segments.proofs.Rests.{SameFrom, same-from, rests-same, others-same, orderly-same}
-use Rattle.segments.proofs.Rests.{rest-far}
-use Rattle.segments.proofs.Kept.{Kept, kept-then, kept-between, kept-costs, kept-segment}
+use Rattle.segments.proofs.Rests.{rest-far, rest-other}
+use Rattle.segments.proofs.Kept.{Kept, kept-then, kept-between, kept-costs, kept-cost, kept-segment}
 use Rattle.segments.proofs.Kept.{kept-segmented, kept-means}
 use Rattle.segments.proofs.OneMore.{orderly-more, by-value, means-more}
+use Rattle.segments.proofs.Drained.{costs-one, passes-same, costs-step}
 use Rattle.segments.proofs.Closing.{left-behind, left-back}
 use Rattle.segments.proofs.Weighings.{Found, RightCosts, found-right}
 use Rattle.segments.proofs.Tasks.{Within, tasked-of, tasked-keeping, ready-of, ready-keeping}
-use Rattle.segments.proofs.Eased.{free-kept}
+use Rattle.segments.proofs.Cheapest.{even-kept, seeing-kept}
 
 -- ---- numbers that fit
 
@@ -162,9 +165,9 @@ module _ {site : Site} {b : Block} {l least : ℕ} {w : List ℕ} (ok : Weighabl
     another : eqb (suc (s .copy)) (s .copy) ≡ false
     another = ne-eqb (suc (s .copy)) (s .copy) (λ e. absurd (omega arith))
 
-    -- It may be asked whether the segment needs a silent step.
-    pub freeable : Freeable site s v
-    freeable =
+    -- It may be asked how far the segment goes without a silent step.
+    pub seeable : Seeable site s v
+    seeable =
         let here = kept-backs .segments l in
         record {
           room = room-backs;
@@ -176,28 +179,76 @@ module _ {site : Site} {b : Block} {l least : ℕ} {w : List ℕ} (ok : Weighabl
           inner = rw here at (segment-backs .inner);
         }
 
-    pub ready-same : Ready (sameTask site b l w r) (s .first) v
-    ready-same = ready-task (behindOf s cleared back) true (s .copy) (eq-eqb (s .copy) (s .copy) refl)
+    -- Without a reset, what is left to pay after a write-back is the same at every gap.
+    module _ (whole : s .end ≤ s .reset) where
+      back-costs : (d t : ℕ) → s .first ≤ t → t + d ≡ s .end → Costs k v (b .end) t (s .copy) 0 (s .copy) back
+      back-costs zero t a e =
+          let last : t ≡ s .end = omega arith in
+          rw last (kept-cost kept-backs short (backable .here))
+      back-costs (suc d) t a e =
+          let here = kept-backs .segments l in
+          let inside : t < s .end = omega arith in
+          let inner = rw here at (segment-backs .inner) in
+          let none = rw here at (segment-backs .early) in
+          let passes = passes-same k (s .copy) (eventIn v t) (s .copy) refl (inner t a inside) in
+          let next = back-costs d (suc t) (omega arith) (omega arith) in
+          costs-step k v (b .end) (s .copy) t (omega (arith, segment .inside)) (inner t a inside) (s .copy) passes
+          (rw (none t a inside (omega arith)) next)
+
+      even-back : (t : ℕ) → s .first ≤ t → t ≤ s .end → backIn v t ≡ back
+      even-back t a h = costs-one (backed .backs t a h) (back-costs (s .end - t) t a (omega arith))
+
+      even-task : (last : ℕ) (same : Bool) → Even site s v (taskOf site s same last r) same back
+      even-task last same =
+          record {
+            owner = refl;
+            end = refl;
+            closing = refl;
+            reads = λ t a h. rw (le-leb t (s .reset) (le-trans h whole)) refl;
+            backs = even-back;
+          }
+
+      -- What is to pay behind the segment then.
+      whole-behind : (kept : ℕ) → behindOf s cleared kept ≡ kept
+      whole-behind kept = rw (le-ltb (s .reset) (s .end) whole) refl
+
+    pub cheap-same : {seen : Seen} → Seeing site s v seen → Cheap site s (sameTask site b l w r) back seen v
+    cheap-same sight =
+        record {
+          ready = ready-task (behindOf s cleared back) true (s .copy) (eq-eqb (s .copy) (s .copy) refl);
+          code = segment-code w l;
+          small = rest-far w b (suc l) (s .copy);
+          even = λ h. even-task h (behindOf s cleared back) true;
+          more = λ h. rw (whole-behind h back) (le-refl back);
+          sight = sight;
+        }
+
+    few-gaps : s .end ≤ MOST
+    few-gaps = le-trans (segment .inside) short
 
     -- In the areas v1, v2 and v3 masks have changed.
     module _ {same : ℕ} {v1 : List ℕ}
         (first : Fewest (sameTask site b l w r) (s .first) (s .code) FAR v same v1) where
-      pub ready-other : Ready (otherTask site b l w r) (s .first) v1
-      ready-other =
-          ready-kept (otherTask site b l w r) (s .first) (le-trans (segment .inside) short)
-          (first .frame) (ready-task (behindOf s cleared next) false (suc (s .copy)) another)
-
-      -- A segment that needs no silent step needs none still.
-      pub free-first : Free s v → Free s v1
-      free-first = free-kept s (le-trans (segment .inside) short) (first .frame)
+      pub cheap-other : {seen : Seen} → Seeing site s v seen → Cheap site s (otherTask site b l w r) back seen v1
+      cheap-other sight =
+          record {
+            ready =
+                ready-kept (otherTask site b l w r) (s .first) few-gaps
+                (first .frame) (ready-task (behindOf s cleared next) false (suc (s .copy)) another);
+            code = segment-code w l;
+            small = rest-far w b (suc l) (s .copy);
+            even = λ h. even-kept few-gaps (first .frame) (even-task h (behindOf s cleared next) false);
+            more = λ h. rw (whole-behind h next) (rest-other w b (suc l) (ok .orderly) (s .copy));
+            sight = seeing-kept few-gaps (first .frame) sight;
+          }
 
       module _ {other : ℕ} {v2 : List ℕ}
           (second : Fewest (otherTask site b l w r) (s .first) (s .code) FAR v1 other v2) where
         levels : OnlyLevels (s .first) (s .end) v v2
         levels = only-then (first .frame) (second .frame)
 
-        pub free-second : Free s v → Free s v2
-        free-second = free-kept s (le-trans (segment .inside) short) levels
+        pub seen-second : {seen : Seen} → Seeing site s v seen → Seeing site s v2 seen
+        seen-second = seeing-kept few-gaps levels
 
         pub keepable : Keepable site s (sparedOf other least) v2
         keepable =

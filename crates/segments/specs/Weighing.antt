@@ -1,19 +1,22 @@
 -- Weighing the segments of a block, from the last one to the first: what each call asks and leaves.
 use Prim.Native.Nat.{ℕ, suc, _+_, _-_, _*_, _≤_, _<_}
 use mathlib.Core.Path.{_≡_}
+use mathlib.Core.Logic.{_↔_, _⊎_}
 use mathlib.Core.Bool.{Bool, true, false, cond, _&&_}
 use mathlib.Core.List.{List}
-use lib.Dec.{leb, eqb, ltb}
+use lib.Dec.{T, leb, eqb, ltb}
 use lib.ListN.{length}
-use Rattle.model.specs.Cxl0.{Value}
+use Rattle.model.specs.Cxl0.{Value, event}
+use Rattle.model.specs.Sharers.{has}
+use Rattle.model.specs.OneLocation.{enabledAt, effect}
 use Rattle.masks.specs.Sets.{OneToSix}
 use Rattle.entries.specs.Entries.{siteMeant}
 use Rattle.entries.specs.declared.Site.{Site}
 use Rattle.rows.specs.Sites.{Known}
 use Rattle.scratch.specs.Layout.{WORDS, MOST, LEVELS, BACKS, SEGMENTS, OnlyIn}
 use Rattle.scratch.specs.Words.{eventIn, structIn}
-use Rattle.levels.specs.Stretches.{FAR, Stretch, Finishes, Inner}
-use Rattle.levels.specs.Tasks.{backIn, Ready, Tasked, Counted}
+use Rattle.levels.specs.Stretches.{FAR, Stretch, stateAt, Inner}
+use Rattle.levels.specs.Tasks.{backIn, readsAt, backAt, Ready, Tasked, Counted}
 use Rattle.levels.specs.declared.Task.{Task}
 use Rattle.segments.specs.Words.{segmentIn, costsIn}
 use Rattle.segments.specs.Costs.{lesser, ending, restFrom, otherFrom, Orderly}
@@ -21,6 +24,7 @@ use Rattle.segments.specs.Segments.{Costs, IsSegment, Segmented, Means, 
 use Rattle.segments.specs.declared.words.Segment.{Segment}
 use Rattle.segments.specs.declared.words.Block.{Block}
 use Rattle.segments.specs.declared.backing.Bounds.{Bounds}
+use Rattle.segments.specs.declared.seeing.Seen.{Seen}
 
 -- ---- the rest of a block
 
@@ -90,18 +94,18 @@ keepingOf site s =
       high = 0;
     }
 
--- ---- segments that need no silent step
+-- ---- how far a segment goes without a silent step
 
--- Every stretch of the task has no step to pay before its last gap, from code c at gap `from`.
-abbrev pub Eased : Task → (from c : ℕ) → List ℕ → Type 0
-Eased task from c w = (q : Stretch) → Tasked task from w q → Finishes q from c (q .last)
-
--- So it is with every task of the segment.
-abbrev pub Free : Segment → List ℕ → Type 0
-Free s w = (task : Task) → task .end ≡ s .end → task .closing ≡ s .closing → Eased task (s .first) (s .code) w
+-- From code c at gap t, at most l silent steps are to pay, without a move: the events lead to the last gap, or to one
+-- where the copies are written back.
+pub data Unmoved (q : Stretch) : (t c l : ℕ) → Type 0 where
+  out : {t c l : ℕ} → t ≡ q .end → T (q .accepts c) → q .last ≤ l → Unmoved q t c l
+  on : {t c l : ℕ} → t < q .end → T (enabledAt (q .site) (event (q .event t)) (stateAt q t c))
+      → Unmoved q (suc t) (effect (q .site) (event (q .event t)) (stateAt q t c) .code) l → Unmoved q t c l
+  back : {t c l : ℕ} → T (has (q .site .owner) c) → q .back t < l → Unmoved q t c l
 
 -- The events of the segment are known, and events of a stretch whose copies have its value.
-pub record Freeable (site : Site) (s : Segment) (w : List ℕ) : Type 0 where
+pub record Seeable (site : Site) (s : Segment) (w : List ℕ) : Type 0 where
   pub room : WORDS ≤ length w
   pub owner : OneToSix (site .owner .0)
   pub order : s .first ≤ s .end
@@ -109,6 +113,31 @@ pub record Freeable (site : Site) (s : Segment) (w : List ℕ) : Type 0 where
   pub code : s .code < 64
   pub known : (t : ℕ) → s .first ≤ t → t < s .end → Known (structIn w t)
   pub inner : (t : ℕ) → s .first ≤ t → t < s .end → Inner (s .copy) (eventIn w t)
+
+-- A task of the segment in which memory has the value of the copies at every gap, or at none, and n steps are left to
+-- pay after a write-back at each.
+pub record Even (site : Site) (s : Segment) (w : List ℕ) (task : Task) (read : Bool) (n : ℕ) : Type 0 where
+  pub owner : task .owner .0 ≡ site .owner .0
+  pub end : task .end ≡ s .end
+  pub closing : task .closing ≡ s .closing
+  pub reads : (t : ℕ) → s .first ≤ t → t ≤ s .end → readsAt task t ≡ read
+  pub backs : (t : ℕ) → s .first ≤ t → t ≤ s .end → backAt task w t ≡ n
+
+-- What was seen says what is to pay without a move, in every such task.
+pub record Seeing (site : Site) (s : Segment) (w : List ℕ) (r : Seen) : Type 0 where
+  pub exact : {task : Task} {read : Bool} {n : ℕ} → Even site s w task read n → {q : Stretch}
+      → Tasked task (s .first) w q → (l : ℕ)
+      → Unmoved q (s .first) (s .code) l
+      ↔ (((cond read (r .same) (r .other) ≡ true) × (q .last ≤ l)) ⊎ ((r .owned ≡ true) × (n < l)))
+
+-- A task of the segment with what was seen of it. Without a reset it is even, and to write nothing back is not less.
+pub record Cheap (site : Site) (s : Segment) (task : Task) (back : ℕ) (seen : Seen) (w : List ℕ) : Type 0 where
+  pub ready : Ready task (s .first) w
+  pub code : s .code < 64
+  pub small : back ≤ FAR
+  pub even : s .end ≤ s .reset → Even site s w task (task .same) back
+  pub more : s .end ≤ s .reset → back ≤ task .last
+  pub sight : Seeing site s w seen
 
 -- ---- keeping a memory value
 

@@ -4,7 +4,7 @@
 //
 // Internal: only crates of this project call it, and they meet what it requires.
 pub mod backing;
-pub mod freeing;
 pub mod resting;
+pub mod seeing;
 pub mod weighing;
 pub mod words;

@@ -1,11 +1,12 @@
 // The costs of a segment, once those after it are known.
 use crate::backing::Bounds;
 use crate::backing::fill_backs;
-use crate::freeing::free;
 use crate::resting::add;
 use crate::resting::least_of;
 use crate::resting::other;
 use crate::resting::rest;
+use crate::seeing::Seen;
+use crate::seeing::see;
 use crate::words::Block;
 use crate::words::Costs;
 use crate::words::Segment;
@@ -18,13 +19,13 @@ use levels::Task;
 use levels::fewest;
 use model::Machine;
 ghost use mathlib.Core.Path.{_≡_};
-ghost use mathlib.Core.Bool.{true};
-ghost use Prim.Native.Nat.{_+_, _≤_, _<_};
+ghost use mathlib.Core.Bool.{cond};
+ghost use Prim.Native.Nat.{_+_, _≤_};
 ghost use Rattle.levels.specs.Stretches.{FAR};
-ghost use Rattle.levels.specs.Tasks.{Ready, Fewest};
+ghost use Rattle.levels.specs.Tasks.{Fewest};
 ghost use Rattle.segments.specs.Segments.{clearedOf, againOf, behindOf};
 ghost use Rattle.segments.specs.Weighing.{taskOf, keepingOf, Restable, sparedOf, Keepable, Keeps};
-ghost use Rattle.segments.specs.Weighing.{Free, Eased, Weighable, Weighed};
+ghost use Rattle.segments.specs.Weighing.{Seeing, Cheap, Weighable, Weighed};
 
 // The segment with memory that has the value of the copies, or not, and `last` to pay behind it.
 pub fn task(site: Site, s: Segment, same: bool, last: u64, bounds: Bounds) -> Task
@@ -99,30 +100,54 @@ pub fn behind(s: Segment, after: u64, kept: u64) -> u64
     if s.reset < s.end { after } else { kept }
 }
 
-// The fewest steps to pay from code c at gap `from`, if they are fewer than `below`, else FAR. If the task is easy, no
-// step is to pay before its last gap; then there is nothing to seek where no write-back costs less either.
-fn cheapest(w: &mut [u64], q: Task, from: usize, c: u8, below: u64, easy: bool) -> u64
-    requires { ⌜ Ready q from (now w) × (c < 64) × (below ≤ FAR) ⌝ }
-    requires { ⌜ (easy ≡ true → Eased q from c (now w)) ⌝ }
-    ensures { λ r. ⌜ Fewest q from c below (now (w .entry)) r (now (w .exit)) ⌝ }
+// The events run to the segment's end without a step, with the memory value of the task.
+fn through(q: Task, seen: Seen) -> bool
+    ensures { λ r. ⌜ r ≡ cond (q .same) (seen .same) (seen .other) ⌝ }
 {
-    if easy & (q.last <= q.low) & (q.low < below) {
-        return q.low;
-    }
-    fewest(w, q, from, c, below)
+    if q.same { seen.same } else { seen.other }
 }
 
-// What keeping a memory value costs in a segment, which needs no step if it is easy. From `below` on, that is no better
-// than any value.
-fn keep(w: &mut [u64], site: Site, s: Segment, below: u64, easy: bool) -> u64
-    requires { ⌜ Keepable site s below (now w) ⌝ }
-    requires { ⌜ (easy ≡ true → Free s (now w)) ⌝ }
+// The fewest steps to pay from the start of a segment, one of whose tasks is q. Unless it has a reset, `back` steps are
+// left after a write-back anywhere, and that takes one step where the owner has a copy or gets one without a step, else
+// two.
+fn cheapest(w: &mut [u64], site: Site, s: Segment, q: Task, back: u64, seen: Seen) -> u64
+    requires { ⌜ Cheap site s q back seen (now w) ⌝ }
+    ensures { λ r. ⌜ Fewest q (s .first) (s .code) FAR (now (w .entry)) r (now (w .exit)) ⌝ }
+{
+    if (s.reset < s.end) | (s.code == 0) | (FAR <= back + 2) {
+        return fewest(w, q, s.first, s.code, FAR);
+    }
+    if through(q, seen) & (q.last <= back + 1) {
+        return q.last;
+    }
+    if seen.owned {
+        return back + 1;
+    }
+    if back < q.last {
+        return back + 2;
+    }
+    let less = fewest(w, q, s.first, s.code, back + 2);
+    if less < FAR {
+        return less;
+    }
+    back + 2
+}
+
+// What keeping a memory value costs in a segment. From `below` on, that is no better than any value.
+fn keep(w: &mut [u64], site: Site, s: Segment, below: u64, seen: Seen) -> u64
+    requires { ⌜ Keepable site s below (now w) × Seeing site s (now w) seen ⌝ }
     ensures { λ r. ⌜ Keeps site s below (now (w .entry)) r (now (w .exit)) ⌝ }
 {
     if s.reset < s.end {
         return FAR;
     }
-    cheapest(w, keeping(site, s), s.first, s.code, below, easy)
+    if seen.other & (0 < below) {
+        return 0;
+    }
+    if below <= 1 {
+        return FAR;
+    }
+    fewest(w, keeping(site, s), s.first, s.code, below)
 }
 
 // How much more one number is than another; FAR is more than any.
@@ -146,24 +171,24 @@ pub fn weigh(w: &mut [u64], site: Site, b: Block, l: usize, least: u64) -> u64
     let next = other(&*w, b, l + 1);
     let after = cleared(&*w, site, b, l, s);
     let bounds = fill_backs(w, site, b, l, s, back, again(site, s, after));
-    let easy = free(&*w, site, s);
+    let seen = see(&*w, site, s);
     let same = cheapest(
         w,
+        site,
+        s,
         task(site, s, true, behind(s, after, back), bounds),
-        s.first,
-        s.code,
-        FAR,
-        easy,
+        back,
+        seen,
     );
     let other = cheapest(
         w,
+        site,
+        s,
         task(site, s, false, behind(s, after, next), bounds),
-        s.first,
-        s.code,
-        FAR,
-        easy,
+        back,
+        seen,
     );
-    let keep = keep(w, site, s, spared(other, least), easy);
+    let keep = keep(w, site, s, spared(other, least), seen);
     put_costs(
         w,
         l,

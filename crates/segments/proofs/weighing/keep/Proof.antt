@@ -1,19 +1,26 @@
 -- `segments::weighing::keep` meets its contract.
+use Prim.Native.Nat.{ℕ, _<_, _≤_}
 use native.Mathlib.Omega.{arith}
-use mathlib.Core.Path.{refl, ap}
+use mathlib.Core.Path.{_≡_, refl, sym, _∙_, subst}
+use mathlib.Core.Logic.{_≢_}
+use mathlib.Core.Bool.{Bool, true, false, true≢false, _&&_}
 use borrow.Author.Needs.{needs}
+use borrow.Author.Tests.{lt-ltb}
+use lib.Dec.{ltb, ltb→lt}
+use Rattle.model.proofs.Tests.{T→true, true→T, and-l, and-r}
 use Rattle.scratch.specs.Layout.{LEVELS, BACKS}
 use Rattle.scratch.proofs.Frames.{only-none, only-wider}
 use Rattle.levels.specs.Tasks.{Ready}
 use Rattle.levels.specs.declared.Task.{Task}
+use Rattle.segments.specs.Weighing.{keepingOf}
+use Rattle.segments.proofs.Cheapest.{keeps-free, keeps-for-some}
 use Rattle.segments.proofs.weighing.keep.Statement.{statement}
 use Rattle.segments.proofs.weighing.keep.Tie as tie
 
 -- A reset does not keep a value.
 reset : tie.Need-returns
 reset c =
-    let a = c .before .before .before .args in
-    let w = a .w .now in
+    let w = c .before .before .before .args .w .now in
     let before = c .if1 .taken in
     record {
       frame = only-none LEVELS BACKS w;
@@ -21,34 +28,75 @@ reset c =
       counts = λ h. absurd (omega arith);
     }
 
--- The task is ready.
-ready : (h : tie.After-keeping)
-    → let start = h .before .before .before .before .before in
-    Ready (h .keeping .result) (start .args .s .first) (start .args .w .now)
-ready h =
-    let start = h .before .before .before .before .before in
-    rw (h .keeping .ensures) (start .pre .0 .task (h .before .before .if1 .left))
+-- Without one, the task is ready.
+abbrev start : tie.Else1 → tie.Start
+start c = c .before .before .before
 
-cheapest-requires : tie.Need-cheapest-requires
-cheapest-requires c κs =
-    let start = c .before .before .before .before .before in
-    let task = c .keeping in
-    let end = ap (λ (t : Task). t .end) (task .ensures) in
-    let closing = ap (λ (t : Task). t .closing) (task .ensures) in
-    ((ready c, start .pre .0 .code, start .pre .0 .most), λ easy. start .pre .1 easy (task .result) end closing)
+ready : (c : tie.Else1) → let a = start c .args in Ready (keepingOf (a .site) (a .s)) (a .s .first) (a .w .now)
+ready c = start c .pre .0 .task (c .if1 .left)
 
-counted : tie.Need-returns-2
+-- What the test of the program says.
+free : (a : Bool) (n : ℕ) → (a && ltb 0 n) ≡ true → (a ≡ true) × (0 < n)
+free a n e = (T→true (and-l a (ltb 0 n) (true→T e)), ltb→lt 0 n (and-r a (ltb 0 n) (true→T e)))
+
+stuck : (a : Bool) (n : ℕ) → (a && ltb 0 n) ≡ false → 0 < n → a ≢ true
+stuck a n e some all = absurd (true≢false (rw (all, lt-ltb 0 n some) at e))
+
+-- The events run through.
+costs-nothing : tie.Need-returns-2
+costs-nothing c =
+    let e = c .before .before in
+    let s = start e in
+    let so = free (s .args .seen .other) (s .args .below) (c .if2 .taken) in
+    record {
+      frame = only-none LEVELS BACKS (s .args .w .now);
+      resets = λ less. absurd (omega (arith, e .if1 .left));
+      counts = λ h q tasked. keeps-free h (ready e) (s .pre .1) tasked (so .0) (so .1);
+    }
+
+-- They do not, and no step may be spent.
+costs-too-much : tie.Need-returns-3
+costs-too-much c =
+    let e = c .before .before .before in
+    let s = start e in
+    let so = stuck (s .args .seen .other) (s .args .below) (c .before .if2 .left) in
+    record {
+      frame = only-none LEVELS BACKS (s .args .w .now);
+      resets = λ less. absurd (omega (arith, e .if1 .left));
+      counts = λ h q tasked. keeps-for-some h (ready e) (s .pre .1) tasked so (c .if3 .taken);
+    }
+
+-- The fewest are sought.
+abbrev seeking : tie.After-keeping → tie.Else1
+seeking c = c .before .before .before .before .before
+
+fewest-requires : tie.Need-fewest-requires
+fewest-requires c κs =
+    let e = seeking c in
+    let a = start e .args in
+    let made = subst (λ (q : Task). Ready q (a .s .first) (a .w .now)) (sym (c .keeping .ensures)) (ready e) in
+    (made, start e .pre .0 .code, start e .pre .0 .most)
+
+counted : tie.Need-returns-4
 counted c =
-    let h = c .before .before in
-    let test = h .before .before .before in
-    let start = test .before .before .before in
-    let fewest = rw (h .before .keeping .ensures) at (h .cheapest .ensures) in
-    let few = start .pre .0 .task (test .if1 .left) .few in
+    let f = c .before .before in
+    let e = seeking (f .before) in
+    let fewest = rw (f .before .keeping .ensures) at (f .fewest .ensures) in
+    let few = ready e .few in
     record {
       frame = only-wider (fewest .frame) (omega arith) (omega arith);
-      resets = λ less. absurd (omega (arith, test .if1 .left));
-      counts = λ _. fewest .counted;
+      resets = λ less. absurd (omega (arith, e .if1 .left));
+      counts = λ h. fewest .counted;
     }
 
 pub keep-spec : {M : Type 1} → statement M
-keep-spec = tie.close (tie.spec reset (λ c κs. search needs) cheapest-requires (λ c. search needs) counted)
+keep-spec =
+    tie.close
+    (tie.spec
+    reset
+    costs-nothing
+    costs-too-much
+    (λ c κs. search needs)
+    fewest-requires
+    (λ c. search needs)
+    counted)

@@ -20,11 +20,12 @@ use Rattle.segments.specs.declared.backing.Bounds.{Bounds}
 use Rattle.segments.specs.Words.{segmentIn, CostsFit, CostsPut}
 use Rattle.segments.specs.Costs.{lesser, plus, restFrom, otherFrom}
 use Rattle.segments.specs.Segments.{clearedOf, againOf, behindOf}
-use Rattle.segments.specs.Weighing.{Eased, Free, Freeable}
+use Rattle.segments.specs.declared.seeing.Seen.{Seen}
+use Rattle.segments.specs.Weighing.{Seeable, Seeing, Cheap}
 use Rattle.segments.specs.Weighing.{Restable, Backable, Backed, taskOf, Keepable, Keeps, sparedOf, Weighed}
 use Rattle.segments.proofs.Weighed.{segment-code, sameTask, otherTask, least-far, backable, bounds-far}
-use Rattle.segments.proofs.Weighed.{freeable, free-first, free-second}
-use Rattle.segments.proofs.Weighed.{ready-same, ready-other, keepable, room-there, numbers-fit, weighed}
+use Rattle.segments.proofs.Weighed.{seeable, cheap-same, cheap-other, seen-second}
+use Rattle.segments.proofs.Weighed.{keepable, room-there, numbers-fit, weighed}
 use Rattle.segments.proofs.weighing.weigh.Statement.{statement}
 use Rattle.segments.proofs.weighing.weigh.Tie as tie
 
@@ -40,22 +41,18 @@ task-again : (site : Site) (same : Bool) (r : Bounds) {t : Task} {g g' : Segment
 task-again site same r e segment last =
     e ∙ ap₂ (λ (h : Segment) (n : ℕ). taskOf site h same n r) segment last
 
-ready-again : {t t' : Task} {g g' : Segment} {w : List ℕ} → t ≡ t' → g ≡ g' → Ready t (g .first) w
-    → Ready t' (g' .first) w
-ready-again {t' = t'} {g} {w = w} task segment ready =
-    subst (λ (h : Segment). Ready t' (h .first) w) segment (subst (λ (u : Task). Ready u (g .first) w) task ready)
-
 fewest-again : {t t' : Task} {g g' : Segment} {below r : ℕ} {w w' : List ℕ} → t ≡ t' → g ≡ g'
     → Fewest t (g .first) (g .code) below w r w' → Fewest t' (g' .first) (g' .code) below w r w'
 fewest-again {t' = t'} {g} {below = below} {r} {w} {w'} task segment fewest =
     subst (λ (h : Segment). Fewest t' (h .first) (h .code) below w r w') segment
     (subst (λ (u : Task). Fewest u (g .first) (g .code) below w r w') task fewest)
 
-eased-again : (site : Site) (same : Bool) (n : ℕ) (r : Bounds) {t : Task} {g g' : Segment} {w : List ℕ}
-    → t ≡ taskOf site g same n r → g ≡ g' → Free g' w → Eased t (g .first) (g .code) w
-eased-again site same n r {t} {w = w} task segment free =
-    subst (λ (h : Segment). Free h w) (sym segment) free t (ap (λ (u : Task). u .end) task)
-    (ap (λ (u : Task). u .closing) task)
+cheap-again : {site : Site} {t t' : Task} {g g' : Segment} {n n' : ℕ} {seen : Seen} {w : List ℕ} → t ≡ t' → g ≡ g'
+    → n ≡ n' → Cheap site g t n seen w → Cheap site g' t' n' seen w
+cheap-again {site} {t' = t'} {g} {g'} {n} {seen = seen} {w} task segment number cheap =
+    subst (λ (m : ℕ). Cheap site g' t' m seen w) number
+    (subst (λ (h : Segment). Cheap site h t' n seen w) segment
+    (subst (λ (u : Task). Cheap site g u n seen w) task cheap))
 
 -- ---- what is read of the segments
 
@@ -154,23 +151,24 @@ backed c = c .fill-backs .ensures
 
 -- ---- silent steps
 
-free-requires : tie.Need-free-requires
-free-requires c κs =
+see-requires : tie.Need-see-requires
+see-requires c κs =
     let f = c .before .before .before in
     let r = numbered f in
-    subst (λ (g : Segment). Freeable (start r .args .site) g (filled f)) (sym (segment-right r))
-    (freeable (start r .pre) (backed f))
+    subst (λ (g : Segment). Seeable (start r .args .site) g (filled f)) (sym (segment-right r))
+    (seeable (start r .pre) (backed f))
 
--- The call that filled in the write-backs, before that which has asked for silent steps.
-abbrev unasked : tie.After-free → tie.After-fill-backs
+-- The call that filled in the write-backs, before that which has followed the events.
+abbrev unasked : tie.After-see → tie.After-fill-backs
 unasked c = c .before .before .before .before
 
--- If it says so, the segment needs none.
-steps-none : (c : tie.After-free) → c .free .result ≡ true → let f = unasked c in
-    Free (segment (start (numbered f))) (filled f)
-steps-none c none =
+-- What that has seen.
+sight : (c : tie.After-see) → let s = start (numbered (unasked c)) in
+    Seeing (s .args .site) (segment s) (filled (unasked c)) (c .see .result)
+sight c =
     let f = unasked c in
-    subst (λ (g : Segment). Free g (filled f)) (segment-right (numbered f)) (c .free .ensures none)
+    let site = start (numbered f) .args .site in
+    subst (λ (g : Segment). Seeing site g (filled f) (c .see .result)) (segment-right (numbered f)) (c .see .ensures)
 
 task-requires : tie.Need-task-requires
 task-requires c κs =
@@ -179,8 +177,8 @@ task-requires c κs =
 
 -- ---- the fewest steps with the value of the copies in memory
 
--- The call that has asked for silent steps, that which filled in the write-backs, and the task that is made.
-abbrev asking : tie.After-task → tie.After-free
+-- The call that has followed the events, that which filled in the write-backs, and the task that is made.
+abbrev asking : tie.After-task → tie.After-see
 asking c = c .before .before .before
 
 abbrev filling : tie.After-task → tie.After-fill-backs
@@ -198,12 +196,8 @@ cheapest-requires : tie.Need-cheapest-requires
 cheapest-requires c κs =
     let f = filling c in
     let r = numbered f in
-    let ready = ready-again (sym (same-task c)) (sym (segment-right r)) (ready-same (start r .pre) (backed f)) in (
-      (ready, code-right r, le-refl FAR),
-      λ easy.
-          eased-again (start r .args .site) true (c .before .behind .result) (f .fill-backs .result)
-          (c .task .ensures) (segment-right r) (steps-none (asking c) easy),
-    )
+    cheap-again (sym (same-task c)) (sym (segment-right r)) (sym (back-right r))
+    (cheap-same (start r .pre) (backed f) (sight (asking c)))
 
 same-found : (c : tie.After-cheapest) → let f = filling (c .before) in let s = start (numbered f) in
     Fewest (sameTask (s .args .site) (s .args .b) (s .args .l) (words s) (f .fill-backs .result))
@@ -236,13 +230,8 @@ cheapest-requires-2 : tie.Need-cheapest-requires-2
 cheapest-requires-2 c κs =
     let f = filling-2 c in
     let r = numbered f in
-    let ready = ready-other (start r .pre) (backed f) (same-found (first c)) in
-    let free = free-first (start r .pre) (backed f) (same-found (first c)) in (
-      (ready-again (sym (other-task c)) (sym (segment-right r)) ready, code-right r, le-refl FAR),
-      λ easy.
-          eased-again (start r .args .site) false (c .before .behind2 .result) (f .fill-backs .result)
-          (c .task2 .ensures) (segment-right r) (free (steps-none (asking (first c .before)) easy)),
-    )
+    cheap-again (sym (other-task c)) (sym (segment-right r)) (sym (back-right r))
+    (cheap-other (start r .pre) (backed f) (same-found (first c)) (sight (asking (first c .before))))
 
 other-found : (c : tie.After-cheapest2) → let f = filling-2 (c .before) in let s = start (numbered f) in
     Fewest (otherTask (s .args .site) (s .args .b) (s .args .l) (words s) (f .fill-backs .result))
@@ -265,17 +254,14 @@ keep-requires c κs =
     let r = numbered f in
     let site = start r .args .site in
     let v = second c .cheapest2 .last .0 in
-    let there =
-    keepable (start r .pre) (backed f) (same-found (first (second c .before))) (other-found (second c))
-    in
-    let free =
-    free-second (start r .pre) (backed f) (same-found (first (second c .before))) (other-found (second c))
-    in (
+    let same = same-found (first (second c .before)) in
+    let other = other-found (second c) in
+    let e = asking (first (second c .before) .before) in
+    let there = keepable (start r .pre) (backed f) same other in
+    let seen = seen-second (start r .pre) (backed f) same other (sight e) in (
       subst (λ (g : Segment). Keepable site g (c .spared .result) v) (sym (segment-right r))
           (subst (λ (n : ℕ). Keepable site (segment (start r)) n v) (sym (c .spared .ensures)) there),
-      λ easy.
-          subst (λ (g : Segment). Free g v) (sym (segment-right r))
-          (free (steps-none (asking (first (second c .before) .before)) easy)),
+      subst (λ (g : Segment). Seeing site g v (e .see .result)) (sym (segment-right r)) seen,
     )
 
 keep-found : (c : tie.After-keep) → let s = start (numbered (filling-3 (c .before))) in
@@ -373,7 +359,7 @@ weigh-spec =
     cleared-requires
     (λ c κs. search needs)
     fill-backs-requires
-    free-requires
+    see-requires
     (λ c κs. search needs)
     task-requires
     cheapest-requires
