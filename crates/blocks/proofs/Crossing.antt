@@ -60,7 +60,6 @@ treadable {l = l} {p} at {w′ = w′} plan =
     let there = kept-ahead (plan .frame) (omega arith) (le-refl _) at in
     record {
       payable = plan .payable;
-      code = there .code;
       fits = rw (there .code) (code-fits w′ l);
       finite = at .finite;
       costs =

@@ -167,7 +167,6 @@ module _ {from to : ℕ} {w w' : List ℕ} (only : OnlyIn from to w w') (low : S
         segment = kept-segment kept here b l (p .short) (p .segment);
         end = rw same (p .end);
         ready = rw same (ready-same only low high q few (p .ready));
-        writes = p .writes;
         tasked = rw same stretch-tasked;
         backs = rw same (λ t a h. rw (back-same only low high t) (kept-cost kept (p .short) (p .backs t a h)));
         links = rw same links-same;

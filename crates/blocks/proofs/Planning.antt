@@ -107,7 +107,6 @@ module _ {site : Site} {b : Block} {l : ℕ} {w : List ℕ} (at : Numbered site 
         end = refl;
         ready =
             ready-of site b l w segment room (at .costed .laid .owner) short r within last (eqb m (s .copy)) m refl;
-        writes = refl;
         tasked = tasked-of site b l w segment r last (eqb m (s .copy)) m refl;
         backs = backs;
         links = finishes-left k w b l segment m last backs (rw (behind-memory k w b l segment m) at lasts);

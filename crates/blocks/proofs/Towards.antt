@@ -1,12 +1,12 @@
 -- Walking on with the shortest schedule, part by part: parts follow one another, and a silent step or the event is such
 -- a part where the walk takes it.
-use Prim.Native.Nat.{ℕ, zero, suc, _+_, _-_, _≤_, _<_}
+use Prim.Native.Nat.{ℕ, suc, _+_, _-_, _≤_, _<_}
 use native.Mathlib.Nat.{le-refl, le-trans}
 use native.Mathlib.Omega.{arith}
 use mathlib.Core.Path.{_≡_, refl, sym, _∙_, subst}
 use mathlib.Core.Logic.{⊎-elim}
 use mathlib.Core.List.{List, [], _∷_, _++_, map, map-append, append-assoc}
-use mathlib.Core.List.{List·Memᴰ·head, List·Memᴰ·tail, List·Memᴰ·not-nil, List·Memᴰ·cases-cons}
+use mathlib.Core.List.{List·Memᴰ·head, List·Memᴰ·tail}
 use lib.Dec.{T}
 use lib.ListN.{length, length-append}
 use Rattle.model.specs.Cxl0.{Machine, Location, Topology, Event, event, silent}
@@ -22,6 +22,7 @@ use Rattle.entries.specs.declared.Site as site
 use Rattle.rows.specs.Sites.{Describes}
 use Rattle.scratch.specs.Layout.{OnlyIn}
 use Rattle.scratch.specs.Words.{eventIn, eventsFrom, wordsAt}
+use Rattle.scratch.proofs.Events.{events-all}
 use Rattle.scratch.proofs.Segments.{words-from, words-two, words-kept}
 use Rattle.walking.specs.Trails.{stepAt, wordOf}
 use Rattle.walking.proofs.StepWords.{word-steps}
@@ -106,13 +107,7 @@ still-event {k} {r = r} still p =
 -- Where all events of the area concern x, those of a stretch do.
 pub all-from : (x : Location) (w : List ℕ) (t m : ℕ)
     → ((j : ℕ) → t ≤ j → j < t + m → T (eventAt x (eventIn w j))) → AllAt x (eventsFrom w t m)
-unfolding eventsFrom
-all-from x w t zero here e m = absurd (List·Memᴰ·not-nil m)
-all-from x w t (suc n) here e m =
-    ⊎-elim
-    (λ q. rw q (here t (le-refl t) (omega arith)))
-    (all-from x w (suc t) n (λ j a h. here j (omega arith) (omega arith)) e)
-    (List·Memᴰ·cases-cons m)
+all-from x w t m here = events-all (λ e. T (eventAt x e)) w t m here
 
 pub all-ahead : (x : Location) (w : List ℕ) (n t : ℕ) → ((j : ℕ) → j < n → T (eventAt x (eventIn w j)))
     → AllAt x (eventsFrom w t (n - t))

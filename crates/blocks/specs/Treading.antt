@@ -49,7 +49,6 @@ pub record Payable (site : Site) (b : Block) (l : ℕ) (m : Value) (q : Task) (w
   pub segment : IsSegment (siteMeant site) w b l
   pub end : q .end ≡ segmentIn w l .end
   pub ready : Ready q (segmentIn w l .first) w
-  pub writes : q .writes ≡ true
   pub tasked : Tasked q (segmentIn w l .first) w (stretchOf (siteMeant site) w (segmentIn w l) m (q .last))
   pub backs : Backs (siteMeant site) w b (segmentIn w l)
   pub links : (t c x : ℕ) → segmentIn w l .first ≤ t → t ≤ segmentIn w l .end → x < FAR
@@ -123,7 +122,6 @@ pub record Paid (site : Site) (b : Block) (l : ℕ) (m : Value) (q : Task) (t : 
 -- The walk stands at the first gap of the segment, with memory value m.
 pub record Treadable (site : Site) (b : Block) (l : ℕ) (q : Task) (p : Stand) (w : List ℕ) : Type 0 where
   pub payable : Payable site b l (p .memory) q w
-  pub code : p .code ≡ segmentIn w l .code
   pub fits : p .code < 64
   pub finite : p .steps < FAR
   pub costs : Costs (siteMeant site) w (b .end) (segmentIn w l .first) (segmentIn w l .copy) (p .code) (p .memory)

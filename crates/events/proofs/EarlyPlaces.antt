@@ -17,12 +17,13 @@ use Rattle.model.specs.Schedule.{Step, stepOf, weave, scheduleFrom, schedule, i
 use Rattle.model.specs.OneLocation.{Local, siteOf, effect, nextAt, startAt, still}
 use Rattle.model.specs.Shortest.{Less, Smaller}
 use Rattle.model.specs.ShortestAt.{RunOf, ShortestAt}
+use Rattle.model.proofs.SilentSteps.{no-step}
 use Rattle.model.proofs.Weaving.{inOrder-cons, scheduleFrom-inOrder}
 use Rattle.model.proofs.RunsOf.{length-scheduleFrom, runOf-nil, runOf-event, runOf-step, runOf-none}
 use Rattle.model.proofs.RunsOf.{event-first, step-first}
 use Rattle.model.proofs.Smallest.{same-step, smaller-nil, shortest-runOf, shortest-schedule}
 use Rattle.events.specs.Thinning.{Thins, rest, keep, skip, Thinned, placeAfter, retimed}
-use Rattle.events.proofs.Thinning.{no-step, From, left-out}
+use Rattle.events.proofs.Thinning.{From, left-out}
 use Rattle.events.proofs.KeptEvents.{thins-rise}
 use Rattle.events.proofs.RetimedRuns.{timed, Shows, shows-rest, shows-first, shows-places}
 use Rattle.events.proofs.RetimedRuns.{thinned-inOrder, thinned-weave, retimed-member}
@@ -37,7 +38,7 @@ run-started sys [] r = tt
 run-started sys {es = es} (event e ∷ acts) r =
     let all = ap length (r .of) in
     scheduleFrom-inOrder 1 1 (length es) acts (omega arith) (omega (arith, all))
-run-started sys {x} (silent a ∷ acts) r = absurd (no-step sys x a (startAt sys x) refl (step-first sys x r .1))
+run-started sys {x} (silent a ∷ acts) r = absurd (no-step (siteOf sys x) a (startAt sys x) refl (step-first sys x r .1))
 
 -- So has the shortest schedule.
 pub shortest-started : (sys : Topology) {x : Location} {es : List Event} {ps : List Step} → ShortestAt sys x es ps
@@ -164,7 +165,7 @@ module _ (clock : ℕ → ℕ) where
         (silent a ∷ left, runOf-step sys x own can run, (stepOf-no-later k n a passed, none))
     leaves-silent false k n {s = s} a acts passed from r more =
         let none : s .code ≡ 0 = ap (λ (s : Local). s .code) from ∙ unfold startAt in refl in
-        absurd (no-step sys x a s none (step-first sys x r .1))
+        absurd (no-step (siteOf sys x) a s none (step-first sys x r .1))
 
     -- Where no event is left to be kept, nothing need be left.
     leaves-none : (k : ℕ) (s : Local) (n : ℕ) (acts : List Action) → Leaves k [] s n acts

@@ -3,20 +3,20 @@ use Prim.Native.Nat.{ℕ, _≤_}
 use native.Mathlib.Omega.{arith}
 use mathlib.Core.Path.{_≡_, refl, ap, _∙_, subst, sym}
 use mathlib.Core.Logic.{⊎-elim, _↔_}
-use mathlib.Core.Bool.{Bool, true, false, cond, not, _&&_}
+use mathlib.Core.Bool.{Bool, true, false, not}
 use mathlib.Core.List.{List, [], _∷_}
-use lib.Dec.{T, eqb}
-use Rattle.model.specs.Cxl0.{Location, Value, Topology, owner, initial}
+use lib.Dec.{T}
+use Rattle.model.specs.Cxl0.{Location, Topology, initial}
 use Rattle.model.specs.Cxl0.{Event, Crash, SetCrash}
-use Rattle.model.specs.Cxl0.{Silent, Propagate, WriteBack, event, silent}
+use Rattle.model.specs.Cxl0.{event, silent}
 use Rattle.model.specs.Sharers.{has}
 use Rattle.model.specs.OneLocation.{Local, locationOf, siteOf, clearsSite, eventAt, silentAt, concerns, enabledAt}
 use Rattle.model.specs.OneLocation.{crashedAt, effect, possibleAt, nextAt}
 use Rattle.model.specs.OneLocation.{startAt, HasRunAt, Silently, still, step}
-use Rattle.model.proofs.Tests.{true→T, not→false, and-l, and-r}
+use Rattle.model.proofs.Tests.{cond-same, true→T, not→false, and-l, and-r}
 use Rattle.model.proofs.Sharers.{remove-le, remove-all-le}
 use Rattle.model.proofs.Locations.{IsCrash, single, several, located, foreign-elsewhere}
-use Rattle.model.proofs.SilentSteps.{has→some}
+use Rattle.model.proofs.SilentSteps.{no-step}
 use Rattle.model.proofs.Gaps.{has-run-nil, after-gap, has-run-cons}
 use Rattle.model.specs.OneLocation.{ownEvent}
 use Rattle.events.specs.Thinning.{noneOwn, matters, Thins, rest, keep, skip, Thinned}
@@ -46,10 +46,6 @@ module _ (sys : Topology) (x : Location) where
   foreign-possible e s t =
       ⊎-elim (λ at. elsewhere-possible e s (foreign-elsewhere x e (at .1) t)) (crash-possible s) (located e)
 
-  cond-same : (b : Bool) (v : Value) → cond b v v ≡ v
-  cond-same true v = refl
-  cond-same false v = refl
-
   -- A crash leaves the start as it is.
   lost-none : (e : Event) (c : ℕ) → c ≤ 0 → crashedAt (siteOf sys x) e c (startAt sys x) ≡ startAt sys x
   unfolding siteOf startAt
@@ -72,16 +68,10 @@ module _ (sys : Topology) (x : Location) where
   -- ---- silent steps
 
   -- Where no machine holds a copy, x has no silent step.
-  pub no-step : (a : Silent) (s : Local) → s .code ≡ 0 → ¬ T (enabledAt (siteOf sys x) (silent a) s)
-  unfolding enabledAt siteOf
-  no-step (Propagate i y) s none t =
-      has→some i (s .code) (and-r (not (eqb i (owner sys x))) (has i (s .code)) t) none
-  no-step (WriteBack y) s none t = has→some (owner sys x) (s .code) t none
-
   quiet : {s t : Local} → Silently sys x s t → s .code ≡ 0 → t ≡ s
   quiet still none = refl
   quiet (step {s} a t r) none =
-      absurd (no-step a s none (and-r (silentAt x a) (enabledAt (siteOf sys x) (silent a) s) t))
+      absurd (no-step (siteOf sys x) a s none (and-r (silentAt x a) (enabledAt (siteOf sys x) (silent a) s) t))
 
   -- ---- runs
 

@@ -7,9 +7,9 @@ use mathlib.Core.Path.{_≡_, refl, sym, subst}
 use mathlib.Core.Logic.{_≢_, _⊎_, inl, inr, ⊎-elim, _↔_}
 use mathlib.Core.Bool.{Bool, not, _&&_, _||_}
 use lib.Dec.{T, T-not, eqb, eqb-refl}
-use Rattle.model.specs.Cxl0.{Machine, Location, Topology, owner, Propagate, WriteBack}
+use Rattle.model.specs.Cxl0.{Machine, Location, Topology, owner, Silent, Propagate, WriteBack, silent}
 use Rattle.model.specs.Sharers.{has, remove}
-use Rattle.model.specs.OneLocation.{Local, moved, silentAt, enabledAt, effect, siteOf}
+use Rattle.model.specs.OneLocation.{Local, Site, moved, silentAt, enabledAt, effect, siteOf}
 use Rattle.model.specs.OneLocation.{Moves, stay, move, Silently, still, step, recoded, written, Reaches}
 use Rattle.model.proofs.Tests.{and-r, and-i, or-l, by-test, ne→test}
 use Rattle.model.proofs.Sharers.{has-insert, has-remove, has-none, insert-bound, remove-le, member}
@@ -38,6 +38,13 @@ moves-bound n {k} l u (move {c} i t r) h = moves-bound n l u r (moved-bound n k 
 pub moves-none : {k c d : ℕ} → Moves k c d → c ≡ 0 → d ≡ 0
 moves-none stay z = z
 moves-none {k} (move {c} i t r) z = absurd (has→some i c (and-r (not (eqb i k)) (has i c) t) z)
+
+-- Nor is a silent step enabled there.
+pub no-step : (k : Site) (a : Silent) (s : Local) → s .code ≡ 0 → ¬ T (enabledAt k (silent a) s)
+unfolding enabledAt
+no-step k (Propagate i y) s none can =
+    has→some i (s .code) (and-r (not (eqb i (k .owner))) (has i (s .code)) can) none
+no-step k (WriteBack y) s none can = has→some (k .owner) (s .code) can none
 
 -- In the normal form t is s with another code, or s with its copies written back.
 pub reached-form : {k : Machine} (s t : Local) → Reaches k s t

@@ -2,17 +2,15 @@
 -- of another value than the copies have, and any event in front of which there is a known state without a copy.
 use Prim.Native.Nat.{_≤_}
 use mathlib.Core.Path.{_≡_, refl, sym, ap, _∙_}
-use mathlib.Core.Bool.{not}
 use mathlib.Core.List.{List, [], _∷_, _++_, cons≢nil}
-use lib.Dec.{T, eqb}
-use Rattle.model.specs.Cxl0.{Location, Value, Topology, Silent, Propagate, WriteBack}
+use lib.Dec.{T}
+use Rattle.model.specs.Cxl0.{Location, Value, Topology}
 use Rattle.model.specs.Cxl0.{Event, Action, event, silent, events}
-use Rattle.model.specs.Sharers.{has}
 use Rattle.model.specs.OneLocation.{Local, Site, siteOf, eventAt, concerns, enabledAt, effect}
 use Rattle.model.specs.OneLocation.{possibleAt, nextAt, afterAt}
 use Rattle.model.specs.ShortestAt.{RunOf, KnownAfter}
-use Rattle.model.proofs.Tests.{and-r, T→true}
-use Rattle.model.proofs.SilentSteps.{has→some}
+use Rattle.model.proofs.Tests.{T→true}
+use Rattle.model.proofs.SilentSteps.{no-step}
 use Rattle.model.proofs.RunsOf.{step-first}
 use Rattle.model.proofs.Greedy.{known-last}
 use Rattle.rows.specs.Rows.{state}
@@ -54,14 +52,7 @@ module _ (sys : Topology) (x : Location) where
 
   -- ---- no copy
 
-  -- Where there is no copy, no silent step is enabled.
-  no-step : (k : Site) (a : Silent) (s : Local) → s .code ≡ 0 → ¬ T (enabledAt k (silent a) s)
-  unfolding enabledAt
-  no-step k (Propagate i y) s none can =
-      has→some i (s .code) (and-r (not (eqb i (k .owner))) (has i (s .code)) can) none
-  no-step k (WriteBack y) s none can = has→some (k .owner) (s .code) can none
-
-  -- So a list without events leads nowhere.
+  -- Where there is no copy, no silent step is enabled: a list without events leads nowhere.
   stays : (acts : List Action) {s : Local} → RunOf sys x [] s acts → s .code ≡ 0 → afterAt sys x acts s ≡ s
   unfolding afterAt events
   stays [] r none = refl

@@ -6,13 +6,14 @@ use native.Mathlib.Decide.{decLe}
 use native.Mathlib.Omega.{arith}
 use mathlib.Core.Path.{_≡_, refl, sym, _∙_, subst}
 use mathlib.Core.Logic.{_≢_, _⊎_, inl, inr, ⊎-elim, _↔_}
-use mathlib.Core.Bool.{Bool, true, false, not, _&&_, cond}
+use mathlib.Core.Bool.{Bool, true, false, true≢false, not, cond}
 use mathlib.Core.List.{List}
-use lib.Dec.{T, eqb}
-use borrow.Author.Tests.{ne-eqb, le-leb}
+use lib.Dec.{T, eqb, eqb→eq}
+use borrow.Author.Tests.{ne-eqb, le-leb, lt-leb, lt-ltb, le-ltb}
 use Rattle.model.specs.Cxl0.{Machine}
 use Rattle.model.specs.Sharers.{has, remove}
 use Rattle.model.specs.OneLocation.{moved}
+use Rattle.model.proofs.Tests.{by-test, T→true, not→false, ne-test}
 use Rattle.model.proofs.Sharers.{member}
 use Rattle.masks.proofs.Codes.{has-itself}
 use Rattle.entries.specs.declared.Site.{Site}
@@ -20,12 +21,19 @@ use Rattle.scratch.specs.Layout.{MOST, LEVELS}
 use Rattle.scratch.proofs.Frames.{only-none}
 use Rattle.levels.specs.declared.Task.{Task}
 use Rattle.levels.specs.Stretches.{FAR, Stretch, Finishes, ends, acts, writes, moves}
-use Rattle.levels.specs.Tasks.{Ready, Tasked, Counted, Fewest, OnlyLevels}
+use Rattle.levels.specs.Tasks.{readsAt, accepting, Ready, Tasked, Counted, Fewest, OnlyLevels}
 use Rattle.levels.proofs.Levels.{finishes-more, nothing-below}
-use Rattle.levels.proofs.Tasks.{stretch-order, stretch-within, stretch-owner, back-kept, tasked-kept}
+use Rattle.levels.proofs.Tasks.{stretch-order, back-kept, tasked-kept}
+use Rattle.levels.proofs.Stretching.{ending, dry, linear}
 use Rattle.segments.specs.declared.words.Segment.{Segment}
 use Rattle.segments.specs.declared.seeing.Seen.{Seen}
-use Rattle.segments.specs.Weighing.{Unmoved, out, on, back, Even, Seeing, Cheap, keepingOf}
+use Rattle.segments.specs.declared.weighing.Others.{Others}
+use Rattle.segments.specs.Costs.{lesser, plus}
+use Rattle.segments.specs.Weighing.{Unmoved, out, on, back, Even, Seeing, writtenOf, Sameable}
+use Rattle.segments.specs.Weighing.{keepingOf, Keeps, sparedOf, onlyBelow, Otherable, OthersOf}
+use Rattle.segments.proofs.Rests.{lesser-min, plus-min, plus-far}
+use Rattle.segments.proofs.TwoWays.{two-ways}
+use Rattle.segments.proofs.Unmoved.{EvenOn, none-written}
 
 -- ---- without a move
 
@@ -48,7 +56,8 @@ module _ (q : Stretch) where
 
 -- ---- a change of masks
 
-module _ {site : Site} {s : Segment} {w w' : List ℕ} (few : s .end ≤ MOST) (only : OnlyLevels (s .first) (s .end) w w') where
+module _ {site : Site} {s : Segment} {w w' : List ℕ} (few : s .end ≤ MOST)
+    (only : OnlyLevels (s .first) (s .end) w w') where
   -- A task that is even stays so.
   pub even-kept : {task : Task} {read : Bool} {n : ℕ} → Even site s w task read n → Even site s w' task read n
   even-kept {task} even =
@@ -101,132 +110,238 @@ written q t c n named fits some e = by-owner (has k c) refl
 -- ---- the fewest steps
 
 -- A number is that of the fewest steps if code c finishes within it and not within fewer.
-counted-here : (q : Stretch) (from c r : ℕ) → r ≤ FAR → Finishes q from c r
+counted-here : (q : Stretch) (from c r : ℕ) → r ≤ FAR → (r < FAR → Finishes q from c r)
     → ((l : ℕ) → l < r → ¬ Finishes q from c l) → Counted q from c FAR r
 counted-here q from c r far here none =
     record {
       most = far;
       exact = λ l h. (
         λ f. elim (decLe r l) [ yes b ↦ b | no b ↦ absurd (none l (omega arith) f) ],
-        λ b. finishes-more q here b,
+        λ b. finishes-more q (here (omega arith)) b,
       );
       far = λ b. omega arith;
     }
 
--- A segment without a reset, from whose first code there is a copy to write back:
-module _ {site : Site} {s : Segment} {task : Task} {n : ℕ} {seen : Seen} {w : List ℕ} (ok : Cheap site s task n seen w)
-    (whole : s .end ≤ s .reset) where
-  -- The events run to its end without a step, with the memory value of the task.
-  abbrev pub through : Bool
-  through = cond (task .same) (seen .same) (seen .other)
+-- A number that was sought below another one, and is at most that.
+counted-below : (q : Stretch) (from c bound r : ℕ) → bound ≤ FAR → (bound < FAR → Finishes q from c bound)
+    → Counted q from c bound r → Counted q from c FAR (lesser bound r)
+counted-below q from c bound r far here counted =
+    counted-here q from c (lesser bound r) (omega (arith, lesser-min bound r)) there none
+  where
+    there : lesser bound r < FAR → Finishes q from c (lesser bound r)
+    there h =
+        elim (decLe bound r) [
+          | yes b ↦ rw (le-leb bound r b) (here (omega (arith, lesser-min bound r)))
+          | no b ↦ rw (lt-leb bound r (omega arith)) (counted .exact r (omega arith) .1 (le-refl r))
+        ]
 
-  module _ {q : Stretch} (tasked : Tasked task (s .first) w q) where
-    even-back : (t : ℕ) → s .first ≤ t → t ≤ q .end → q .back t ≡ n
-    even-back t a b =
-        let inside = stretch-within (ok .ready) tasked t b in
-        tasked .backs t a inside ∙ ok .even whole .backs t a (rw (← ok .even whole .end) inside)
+    none : (l : ℕ) → l < lesser bound r → ¬ Finishes q from c l
+    none l h f = absurd (omega (arith, lesser-min bound r, counted .exact l (omega (arith, lesser-min bound r)) .0 f))
 
-    order : s .first ≤ q .end
-    order = stretch-order (ok .ready) tasked
+-- ---- a segment without a reset
 
-    -- Without a move, it finishes as what is seen says.
-    seen-here : (l : ℕ) → Unmoved q (s .first) (s .code) l
-        ↔ (((through ≡ true) × (q .last ≤ l)) ⊎ ((seen .owned ≡ true) × (n < l)))
-    seen-here = ok .sight .exact (ok .even whole) tasked
+-- The task with no run behind its last gap: a write-back must be on the way.
+abbrev unended : Task → Task
+unended task =
+    record {
+      owner = task .owner;
+      end = task .end;
+      closing = task .closing;
+      reset = task .reset;
+      same = task .same;
+      later = task .later;
+      writes = task .writes;
+      last = FAR;
+      low = task .low;
+      high = task .high;
+    }
 
-    -- Below a number that is at most what is to pay by the events, and by a write-back, nothing finishes.
-    none-below : (low : ℕ) → low ≤ task .last → low ≤ suc n → (l : ℕ) → l < low
-        → ¬ Finishes q (s .first) (s .code) l
-    none-below low last behind l h f =
-        absurd (omega (
-          arith,
-          nothing-below q (s .first) low (rw (tasked .last) last)
-              (λ t a b. rw (even-back t a b) behind) (le-refl _) order f,
-        ))
+unended-even : {site : Site} {s : Segment} {w : List ℕ} {task : Task} {read : Bool} {n : ℕ}
+    → Even site s w task read n → Even site s w (unended task) read n
+unended-even even =
+    record {
+      owner = even .owner;
+      end = even .end;
+      closing = even .closing;
+      reads = even .reads;
+      backs = even .backs;
+    }
 
-    -- Nor within it, if it is not seen.
-    none-within : (low : ℕ) → low ≤ task .last → low ≤ suc n → (through ≡ true → ¬ (task .last ≤ low))
-        → (seen .owned ≡ true → ¬ (n < low)) → (l : ℕ) → l ≤ low → ¬ Finishes q (s .first) (s .code) l
-    none-within low last behind late unwritten l h f =
-        let alone = lowest-unmoved q (s .first) low (rw (tasked .last) last) (λ t a b. rw (even-back t a b) behind)
-        (le-refl _) order (le-refl low) (finishes-more q f h) in
-        ⊎-elim (λ e. late (e .0) (rw (tasked .last) at (e .1))) (λ e. unwritten (e .0) (e .1)) (seen-here low .0 alone)
+unended-tasked : {task : Task} {from : ℕ} {w : List ℕ} {q : Stretch} → Tasked task from w q
+    → Tasked (unended task) from w (ending q FAR)
+unended-tasked tasked =
+    record {
+      owner = tasked .owner;
+      end = tasked .end;
+      last = refl;
+      events = tasked .events;
+      inner = tasked .inner;
+      backs = tasked .backs;
+      reads = tasked .reads;
+      accepts = tasked .accepts;
+    }
 
-  -- In the area nothing has changed.
+-- What is seen of it:
+module _ {site : Site} {s : Segment} {task : Task} {read : Bool} {n : ℕ} {seen : Seen} {w : List ℕ}
+    (even : Even site s w task read n) (order : s .first ≤ s .end) (sight : Seeing site s w seen)
+    {q : Stretch} (tasked : Tasked task (s .first) w q) where
+  ended : q .end ≡ s .end
+  ended = tasked .end ∙ even .end
+
+  even-back : (t : ℕ) → s .first ≤ t → t ≤ q .end → q .back t ≡ n
+  even-back t a b = tasked .backs t a (rw (tasked .end) at b) ∙ even .backs t a (rw ended at b)
+
+  -- Below a number that is at most what is to pay by the events, and by a write-back, nothing finishes.
+  none-below : (low : ℕ) → low ≤ q .last → low ≤ suc n → (l : ℕ) → l < low → ¬ Finishes q (s .first) (s .code) l
+  none-below low last behind l h f =
+      absurd (omega (
+        arith,
+        nothing-below q (s .first) low last (λ t a b. rw (even-back t a b) behind) (le-refl _)
+            (rw ended order) f,
+      ))
+
+  -- Nor within it, if it is not seen.
+  none-within : (low : ℕ) → low ≤ q .last → low ≤ suc n
+      → (cond read (seen .same) (seen .other) ≡ true → ¬ (q .last ≤ low)) → (seen .owned ≡ true → ¬ (n < low))
+      → ¬ Finishes q (s .first) (s .code) low
+  none-within low last behind late unwritten f =
+      let alone = lowest-unmoved q (s .first) low last (λ t a b. rw (even-back t a b) behind) (le-refl _)
+      (rw ended order) (le-refl low) f in
+      ⊎-elim (λ e. late (e .0) (e .1)) (λ e. unwritten (e .0) (e .1)) (sight .exact even tasked low .0 alone)
+
+-- With a write-back on the way it finishes within as many steps as that takes.
+module _ {site : Site} {s : Segment} {task : Task} {read : Bool} {n : ℕ} {seen : Seen} {w : List ℕ}
+    (even : Even site s w task read n) (order : s .first ≤ s .end) (sight : Seeing site s w seen)
+    (named : 1 ≤ site .owner .0) (fits : s .code < 64) {q : Stretch} (tasked : Tasked task (s .first) w q) where
+  -- The owner has a copy without a move.
+  by-owner : seen .owned ≡ true → (l : ℕ) → l < FAR
+      → Finishes (ending q FAR) (s .first) (s .code) l ↔ (plus n 1 ≤ l)
+  by-owner owned l far =
+      let e = unended-even even in
+      let t = unended-tasked tasked in (
+        λ f. elim (decLe (plus n 1) l) [
+          | yes b ↦ b
+          | no b ↦
+              absurd (none-below e order sight t (plus n 1) (plus-far n 1) (omega (arith, plus-min n 1)) l
+              (omega arith) f)
+        ],
+        λ b. unmoved-finishes (ending q FAR) (sight .exact e t l .1 (inr (owned, omega (arith, plus-min n 1)))),
+      )
+
+  -- It has none, but there is one.
+  by-move : seen .owned ≡ false → s .code ≢ 0 → (l : ℕ) → l < FAR
+      → Finishes (ending q FAR) (s .first) (s .code) l ↔ (plus n 2 ≤ l)
+  by-move unowned some l far =
+      let e = unended-even even in
+      let t = unended-tasked tasked in
+      let owner : 1 ≤ q .site .owner = rw (tasked .owner, even .owner) named in
+      let here = even-back even order sight tasked (s .first) (le-refl _) (rw (ended even order sight tasked) order) in
+      let two = written (ending q FAR) (s .first) (s .code) n owner fits some here in (
+        λ f. elim (decLe (plus n 2) l) [
+          | yes b ↦ b
+          | no b ↦
+              absurd (none-within e order sight t l (omega arith) (omega (arith, plus-min n 2))
+              (λ all. λ h. absurd (omega arith)) (λ owned. absurd (true≢false (sym owned ∙ unowned))) f)
+        ],
+        λ b. finishes-more (ending q FAR) two (omega (arith, plus-min n 2)),
+      )
+
+  pub by-writing : (l : ℕ) → l < FAR
+      → Finishes (ending q FAR) (s .first) (s .code) l ↔ (writtenOf s n seen ≤ l)
+  by-writing l far = by-test (eqb (s .code) 0) none some
+    where
+      of : EvenOn site s w q read n
+      of = record { task = task; even = even; tasked = tasked }
+
+      none : T (eqb (s .code) 0) → Finishes (ending q FAR) (s .first) (s .code) l ↔ (writtenOf s n seen ≤ l)
+      none z =
+          let bare : eqb (s .code) 0 ≡ true = T→true z in
+          rw bare
+          (λ f. absurd (none-written of (le-refl _) (eqb→eq (s .code) 0 z) far f), λ b. absurd (omega arith))
+
+      owned : (b : Bool) → seen .owned ≡ b → s .code ≢ 0
+          → Finishes (ending q FAR) (s .first) (s .code) l ↔ (plus n (cond b 1 2) ≤ l)
+      owned true e c = by-owner e l far
+      owned false e c = by-move e c l far
+
+      some : T (not (eqb (s .code) 0)) → Finishes (ending q FAR) (s .first) (s .code) l ↔ (writtenOf s n seen ≤ l)
+      some c =
+          let held : eqb (s .code) 0 ≡ false = not→false c in
+          rw held (owned (seen .owned) refl (ne-test (s .code) 0 c))
+
+-- It takes FAR at most.
+pub written-far : (s : Segment) (n : ℕ) (seen : Seen) → writtenOf s n seen ≤ FAR
+written-far s n seen = go (eqb (s .code) 0)
+  where
+    go : (b : Bool) → cond b FAR (plus n (cond (seen .owned) 1 2)) ≤ FAR
+    go true = le-refl FAR
+    go false = plus-far n (cond (seen .owned) 1 2)
+
+-- ---- with the value of the copies in memory
+
+module _ {site : Site} {s : Segment} {task : Task} {n : ℕ} {seen : Seen} {w : List ℕ}
+    (ok : Sameable site s task n seen w) (whole : s .end ≤ s .reset) where
+  same-order : s .first ≤ s .end
+  same-order = rw (← ok .even whole .end) (ok .ready .order)
+
+  same-named : 1 ≤ site .owner .0
+  same-named = rw (← ok .even whole .owner) (ok .ready .owner .0)
+
+  same-last : {q : Stretch} → Tasked task (s .first) w q → q .last ≡ n
+  same-last tasked = tasked .last ∙ ok .last whole
+
+  -- A write-back is one way to finish.
+  pub same-writes : {q : Stretch} → Tasked task (s .first) w q → writtenOf s n seen < FAR
+      → Finishes q (s .first) (s .code) (writtenOf s n seen)
+  same-writes {q} tasked far =
+      linear q (q .last) (s .first) (s .code) (writtenOf s n seen) far .1
+      (inl (by-writing (ok .even whole) same-order (ok .sight) same-named (ok .code) tasked (writtenOf s n seen) far .1
+      (le-refl _)))
+
   unchanged : OnlyLevels (s .first) (task .end) w w
   unchanged = only-none (LEVELS + s .first) (LEVELS + (task .end + 1)) w
 
-  -- The events alone are the cheapest way.
-  pub by-events : n + 2 < FAR → through ≡ true → task .last ≤ n + 1
-      → Fewest task (s .first) (s .code) FAR w (task .last) w
-  by-events far all less =
+  -- The events alone are the cheapest way,
+  pub same-through : seen .same ≡ true → Fewest task (s .first) (s .code) FAR w n w
+  same-through all =
       record {
         frame = unchanged;
-        counted = λ q tasked.
-            counted-here q (s .first) (s .code) (task .last) (omega arith)
-            (unmoved-finishes q (seen-here tasked (task .last) .1 (inl (all, rw (tasked .last) (le-refl _)))))
-            (none-below tasked (task .last) (le-refl _) (omega arith));
+        counted =
+            λ q tasked.
+            let last = same-last tasked in
+            let even = ok .even whole in
+            counted-here q (s .first) (s .code) n (ok .small)
+            (λ far. unmoved-finishes q (ok .sight .exact even tasked n .1 (inl (all, omega arith))))
+            (none-below even same-order (ok .sight) tasked n (omega arith) (omega arith));
       }
 
-  -- A write-back is, where the owner has a copy without a move.
-  pub by-owner : n + 2 < FAR → (through ≡ true → ¬ (task .last ≤ n + 1)) → seen .owned ≡ true
-      → Fewest task (s .first) (s .code) FAR w (n + 1) w
-  by-owner far late owned =
+  -- or a write-back that takes one step,
+  pub same-written : seen .same ≡ false → writtenOf s n seen ≤ n + 1
+      → Fewest task (s .first) (s .code) FAR w (writtenOf s n seen) w
+  same-written stuck few =
       record {
         frame = unchanged;
-        counted = λ q tasked.
-            counted-here q (s .first) (s .code) (n + 1) (omega arith)
-            (unmoved-finishes q (seen-here tasked (n + 1) .1 (inr (owned, omega arith))))
-            (λ l h.
-            none-within tasked n (ok .more whole) (omega arith) (λ e b. late e (omega arith))
-            (λ e b. absurd (omega arith)) l (omega arith));
+        counted =
+            λ q tasked.
+            let last = same-last tasked in
+            counted-here q (s .first) (s .code) (writtenOf s n seen) (written-far s n seen) (same-writes tasked)
+            (λ l h f.
+            absurd (none-within (ok .even whole) same-order (ok .sight) tasked n (omega arith) (omega arith)
+            (λ all. absurd (true≢false (sym all ∙ stuck))) (λ owned b. absurd (omega arith))
+            (finishes-more q f (omega arith))));
       }
 
-  module _ (far : n + 2 < FAR) (some : s .code ≢ 0) (late : through ≡ true → ¬ (task .last ≤ n + 1))
-      (unowned : seen .owned ≢ true) where
-    -- After a move it can be written back.
-    moved-back : {q : Stretch} → Tasked task (s .first) w q → Finishes q (s .first) (s .code) (n + 2)
-    moved-back {q} tasked =
-        let named = stretch-owner (ok .ready) tasked .0 in
-        let two : n + 2 ≡ suc (suc n) = omega arith in
-        rw two (written q (s .first) (s .code) n named (ok .code) some
-        (even-back tasked (s .first) (le-refl _) (order tasked)))
-
-    -- That is the cheapest way, where the events alone lead to more than is left behind a write-back.
-    pub by-move : n < task .last → Fewest task (s .first) (s .code) FAR w (n + 2) w
-    by-move more =
-        record {
-          frame = unchanged;
-          counted = λ q tasked.
-              counted-here q (s .first) (s .code) (n + 2) (omega arith) (moved-back tasked)
-              (λ l h.
-              none-within tasked (n + 1) (omega arith) (omega arith) late (λ e. absurd (unowned e)) l
-              (omega arith));
-        }
-
-    -- Where they do not, less was sought: if it was found, it is that,
-    module _ {r : ℕ} {w' : List ℕ} (sought : Fewest task (s .first) (s .code) (n + 2) w r w') where
-      pub by-search : r < FAR → Fewest task (s .first) (s .code) FAR w r w'
-      by-search found =
-          record { frame = sought .frame; counted = counted }
-        where
-          counted : (q : Stretch) → Tasked task (s .first) w q → Counted q (s .first) (s .code) FAR r
-          counted q tasked =
-              let c = sought .counted q tasked in
-              let less : r < n + 2 =
-              elim (decLe (n + 2) r) [ yes b ↦ absurd (omega (arith, c .far b)) | no b ↦ omega arith ] in
-              counted-here q (s .first) (s .code) r (c .most) (c .exact r less .1 (le-refl r))
-              (λ l h f. absurd (omega (arith, c .exact l (omega arith) .0 f)))
-
-      -- and else a write-back after a move.
-      pub by-default : FAR ≤ r → Fewest task (s .first) (s .code) FAR w (n + 2) w'
-      by-default none =
-          record {
-            frame = sought .frame;
-            counted = λ q tasked.
-                counted-here q (s .first) (s .code) (n + 2) (omega arith) (moved-back tasked)
-                (λ l h f. absurd (omega (arith, sought .counted q tasked .exact l h .0 f)));
-          }
+  -- or less was sought.
+  pub same-sought : {r : ℕ} {w' : List ℕ} → Fewest task (s .first) (s .code) (writtenOf s n seen) w r w'
+      → Fewest task (s .first) (s .code) FAR w (lesser (writtenOf s n seen) r) w'
+  same-sought {r} sought =
+      record {
+        frame = sought .frame;
+        counted =
+            λ q tasked.
+            counted-below q (s .first) (s .code) (writtenOf s n seen) r (written-far s n seen) (same-writes tasked)
+            (sought .counted q tasked);
+      }
 
 -- ---- keeping a memory value
 
@@ -263,10 +378,138 @@ module _ {site : Site} {s : Segment} {seen : Seen} {w : List ℕ} (whole : s .en
     pub keeps-for-some : {below : ℕ} → (0 < below → seen .other ≢ true) → below ≤ 1
         → Counted q (s .first) (s .code) below FAR
     keeps-for-some {below} stuck few =
-        record { most = le-refl FAR; exact = λ l h. (λ f. absurd (none l h f), λ b. absurd (omega arith)); far = λ b. refl }
+        record {
+          most = le-refl FAR;
+          exact = λ l h. (λ f. absurd (none l h f), λ b. absurd (omega arith));
+          far = λ b. refl;
+        }
       where
         none : (l : ℕ) → l < below → ¬ Finishes q (s .first) (s .code) l
         none l h f =
             let alone = lowest-unmoved q (s .first) 0 (omega arith) (λ t a b. omega arith) (le-refl _)
             (stretch-order ready tasked) (omega arith) f in
             ⊎-elim (λ e. stuck (omega arith) (e .0)) (λ e. absurd (omega (arith, e .1))) (seen-keeping l .0 alone)
+
+-- What a number can spare is at most FAR, and more if the number is.
+pub spared-far : (a b : ℕ) → sparedOf a b ≤ FAR
+spared-far a b =
+    elim (decLe FAR a) [
+      | yes h ↦ rw (le-leb FAR a h) (le-refl FAR)
+      | no h ↦ rw (lt-leb FAR a (omega arith)) (omega arith)
+    ]
+
+spared-more : (a a' b : ℕ) → a ≤ a' → sparedOf a b ≤ sparedOf a' b
+spared-more a a' b le =
+    elim (decLe FAR a') [
+      | yes h ↦ rw (le-leb FAR a' h) (spared-far a b)
+      | no h ↦ rw (lt-leb FAR a' (omega arith), lt-leb FAR a (omega arith)) (omega arith)
+    ]
+
+-- A number that was sought below a bound, below a lesser one.
+counted-less : (q : Stretch) (from c bound less r : ℕ) → less ≤ bound → less ≤ FAR → Counted q from c bound r
+    → Counted q from c less (onlyBelow r less)
+counted-less q from c bound less r le far counted =
+    elim (decLe less r) [
+      | yes h ↦
+          rw (le-ltb r less h)
+          (record {
+            most = le-refl FAR;
+            exact = λ l b. (
+              λ f. absurd (omega (arith, counted .exact l (omega arith) .0 f)),
+              λ b'. absurd (omega arith),
+            );
+            far = λ b. refl;
+          })
+      | no h ↦
+          rw (lt-ltb r less (omega arith))
+          (record {
+            most = omega arith;
+            exact = λ l b. counted .exact l (omega arith);
+            far = λ b. absurd (omega arith);
+          })
+    ]
+
+-- ---- with another value in memory
+
+module _ {site : Site} {s : Segment} {task : Task} {n least : ℕ} {seen : Seen} {w : List ℕ}
+    (ok : Otherable site s task n least seen w) (whole : s .end ≤ s .reset) where
+  -- Without write-backs and with nothing to pay behind it, the stretch is one that keeps the value.
+  keeping-tasked : {q : Stretch} → Tasked task (s .first) w q
+      → Tasked (keepingOf site s) (s .first) w (ending (dry q) 0)
+  keeping-tasked {q} tasked =
+      let even = ok .even whole in
+      let inside : (t : ℕ) → t ≤ s .end → t ≤ task .end = λ t h. rw (even .end) h in
+      let kept = even-keeping whole (ok .keeping whole) (ok .sight) in
+      record {
+        owner = tasked .owner ∙ even .owner;
+        end = tasked .end ∙ even .end;
+        last = refl;
+        events = λ t a b. tasked .events t a (inside (suc t) b);
+        inner = λ t a b. tasked .inner t a (inside (suc t) b);
+        backs = λ t a b. refl;
+        reads = λ t a b. tasked .reads t a (inside t b) ∙ even .reads t a b ∙ sym (kept .reads t a b);
+        accepts = accepts;
+      }
+    where
+      accepts : (c : ℕ) → q .accepts c ≡ accepting (s .closing) (readsAt (keepingOf site s) (s .end)) c
+      accepts c =
+          let even = ok .even whole in
+          let kept = even-keeping whole (ok .keeping whole) (ok .sight) in
+          let order = ok .keeping whole .order in
+          tasked .accepts c
+          ∙ rw (
+            even .closing,
+            even .end,
+            even .reads (s .end) order (le-refl _),
+            kept .reads (s .end) order (le-refl _),
+          ) refl
+
+  module _ {kept : ℕ} {w' : List ℕ} (keeps : Keeps site s (sparedOf (writtenOf s n seen) least) w kept w') where
+    -- What keeping costs is at most FAR.
+    pub keeps-far : kept ≤ FAR
+    keeps-far = keeps .counts whole (ending (dry (ok .ready .stretch)) 0) (keeping-tasked (ok .ready .tasked)) .most
+
+    abbrev others-least : ℕ
+    others-least = lesser (writtenOf s n seen) (plus kept (task .last))
+
+    -- Either the value is kept, or the copies are written back.
+    others-counted : (q : Stretch) → Tasked task (s .first) w q
+        → Counted q (s .first) (s .code) FAR others-least
+    others-counted q tasked =
+        let even = ok .even whole in
+        let order = ok .keeping whole .order in
+        let named : 1 ≤ site .owner .0 = rw (← even .owner) (ok .ready .owner .0) in
+        let paid = writtenOf s n seen in
+        let counts = keeps .counts whole (ending (dry q) 0) (keeping-tasked tasked) in
+        let last = tasked .last in
+        let exact = two-ways (λ m x. Finishes (ending q m) (s .first) (s .code) x)
+        (Finishes (ending q FAR) (s .first) (s .code)) (Finishes (ending (dry q) 0) (s .first) (s .code))
+        (λ m x far. linear q m (s .first) (s .code) x far) paid FAR kept least (written-far s n seen)
+        (by-writing even order (ok .sight) named (ok .code) tasked) (counts .exact) (counts .far)
+        (q .last) (rw last (ok .small .1)) (rw last (ok .spares whole)) in
+        record {
+          most = le-trans (omega (arith, lesser-min paid (plus kept (task .last)))) (written-far s n seen);
+          exact = λ l far. rw (← last) (exact l far);
+          far = λ b. omega (arith, lesser-min paid (plus kept (task .last)), written-far s n seen);
+        }
+
+    -- What it costs to keep it, below what that can spare.
+    others-keep : Keeps site s (sparedOf others-least least) w (onlyBelow kept (sparedOf others-least least)) w'
+    others-keep =
+        let paid = writtenOf s n seen in
+        let less : others-least ≤ paid = omega (arith, lesser-min paid (plus kept (task .last))) in
+        record {
+          frame = keeps .frame;
+          resets = λ h. absurd (omega arith);
+          counts =
+              λ h q tasked.
+              counted-less q (s .first) (s .code) (sparedOf paid least) (sparedOf others-least least) kept
+              (spared-more others-least paid least less) (spared-far others-least least) (keeps .counts h q tasked);
+        }
+
+    -- These are the numbers.
+    abbrev pub others-numbers : Others
+    others-numbers = record { other = others-least; keep = onlyBelow kept (sparedOf others-least least) }
+
+    pub others-right : OthersOf site s task least w others-numbers w'
+    others-right = record { counts = others-counted; keeps = others-keep }

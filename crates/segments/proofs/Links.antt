@@ -3,14 +3,15 @@ use Prim.Native.Nat.{ℕ, zero, suc, _+_, _-_, _≤_, _<_}
 use native.Mathlib.Nat.{le-refl, lt-of-lt-of-le, eq-or-lt-of-le}
 use native.Mathlib.Decide.{decLe}
 use native.Mathlib.Omega.{arith}
-use mathlib.Core.Path.{_≡_, refl, sym, subst}
+use mathlib.Core.Path.{_≡_, sym, subst}
 use mathlib.Core.Logic.{_↔_, ⊎-elim}
-use mathlib.Core.Bool.{Bool, true, false, cond}
+use mathlib.Core.Bool.{cond}
 use mathlib.Core.List.{List, _∷_}
 use borrow.Author.Tests.{le-leb, lt-leb, lt-ltb, le-ltb}
 use Rattle.model.specs.Cxl0.{Value, Event, event}
 use Rattle.model.specs.OneLocation.{Local, Site, clearsSite, effect}
 use Rattle.model.specs.Paying.{Pays, acts, moves, writes}
+use Rattle.model.proofs.Tests.{cond-same}
 use Rattle.rows.specs.Rows.{state}
 use Rattle.scratch.specs.Words.{eventIn, eventsFrom}
 use Rattle.levels.specs.Stretches.{FAR, Stretch, Finishes}
@@ -30,11 +31,6 @@ use Rattle.segments.proofs.Closing.{Lasts, behind-right}
 by-order : {A : Type 0} (m n : ℕ) → (m < n → A) → (m ≡ n → A) → (n < m → A) → A
 by-order m n less same more =
     elim (decLe n m) [ yes h ↦ ⊎-elim (λ e. same (sym e)) more (eq-or-lt-of-le h) | no h ↦ less (omega arith) ]
-
--- A test between equal things decides nothing.
-either-way : (t : Bool) (m : ℕ) → cond t m m ≡ m
-either-way true m = refl
-either-way false m = refl
 
 -- ---- memory inside a segment
 
@@ -69,7 +65,7 @@ module _ (k : Site) (w : List ℕ) (b : Block) (l : ℕ) (seg : IsSegment k w b 
           → memoryAt k s m (suc t) ≡ cond (clearsSite (eventIn w t) k) (k .initial) (memoryAt k s m t)
       after d =
           rw (lt-leb (suc t) (s .reset) (omega arith), lt-leb t (s .reset) d)
-          (sym (either-way (clearsSite (eventIn w t) k) (k .initial)))
+          (sym (cond-same (clearsSite (eventIn w t) k) (k .initial)))
 
   -- ---- a segment and its stretch
 

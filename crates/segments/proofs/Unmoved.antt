@@ -13,7 +13,7 @@ use Rattle.model.specs.Cxl0.{Value, event}
 use Rattle.model.specs.Cxl0.{Event, LStore, RStore, MStore, Load, LFlush, RFlush, Crash, SetCrash, RMW}
 use Rattle.model.specs.Sharers.{has}
 use Rattle.model.specs.OneLocation.{Local, Site, enabledAt, effect}
-use Rattle.model.proofs.Tests.{by-test, ne-test, T→true, true→T, or-l, or-r, or-cases}
+use Rattle.model.proofs.Tests.{by-test, ne-test, T→true, true→T, and-r, or-l, or-r, or-cases}
 use Rattle.model.proofs.SilentSteps.{has→some}
 use Rattle.entries.specs.Entries.{siteMeant, shortOf}
 use Rattle.entries.specs.declared.Acted.{Acted}
@@ -23,8 +23,9 @@ use Rattle.scratch.specs.Words.{eventIn}
 use Rattle.scratch.specs.declared.Waypoint.{Waypoint}
 use Rattle.walking.specs.Acting.{Acts}
 use Rattle.levels.specs.declared.Task.{Task}
-use Rattle.levels.specs.Stretches.{Stretch, stateAt, Inner}
+use Rattle.levels.specs.Stretches.{FAR, Stretch, stateAt, Finishes, ends, acts, writes, moves, Inner}
 use Rattle.levels.specs.Tasks.{accepting, Tasked}
+use Rattle.levels.proofs.Stretching.{ending}
 use Rattle.segments.specs.declared.words.Segment.{Segment}
 use Rattle.segments.specs.Weighing.{Unmoved, out, on, back, Seeable, Even, Seeing}
 use Rattle.segments.proofs.Drained.{drained-leads, passes-same}
@@ -189,6 +190,16 @@ module _ {at : site.Site} {s : Segment} {w : List ℕ} {q : Stretch} {read : Boo
         rw (none-after from h) (none-passes k reads (omega arith) (omega arith) less),
       ))
 
+  -- And no copy comes to be written back.
+  pub none-written : {t c l : ℕ} → s .first ≤ t → c ≡ 0 → l < FAR → ¬ Finishes (ending q FAR) t c l
+  none-written from z far (ends e a b) = absurd (omega arith)
+  none-written {c = c} from z far (writes o b) = absurd (has→some (q .site .owner) c o z)
+  none-written {c = c} from z far (moves i v f) =
+      absurd (has→some i c (and-r (not (eqb i (q .site .owner))) (has i c) v) z)
+  none-written {t} from z far (acts b e f) =
+      let h : t < s .end = rw (← end-is) b in
+      none-written (omega arith) (rw (z, event-is from h) (none-after from h)) far f
+
 -- ---- the walk
 
 -- What holds of every stretch of an even task of the segment, and of every number of steps.
@@ -240,12 +251,12 @@ module _ {at : site.Site} {s : Segment} {w : List ℕ} (ok : Seeable at s w) whe
     -- What is to pay from there says what was seen.
     seen-from : {other same : Bool} → Evenly at s w (Ends at t c other same)
         → Seeing at s w (record { other = other; same = same; owned = owned })
-    seen-from ends =
+    seen-from paid =
         record {
           exact =
               λ {task} {read} {n} even {q} tasked l.
               let of : EvenOn at s w q read n = record { task = task; even = even; tasked = tasked } in
-              let here = ends q read n of l in
+              let here = paid q read n of l in
               let start = so .leads q read n of l in (
                 λ f. ⊎-elim (λ g. ⊎-map (λ p. p) (λ b. (so .holds (b .0), b .1)) (here .0 g)) inr (start .0 f),
                 λ f. start .1 (⊎-map (λ p. here .1 (inl p)) (λ b. b) f),
@@ -314,7 +325,7 @@ module _ {at : site.Site} {s : Segment} {w : List ℕ} (ok : Seeable at s w) whe
       -- An event that is not: there is no way on, but with the value of the copies in memory and without a copy.
       pub walked-stuck : made .enabled ≡ false
           → Seeing at s w (record { other = false; same = eqb c 0; owned = owned })
-      walked-stuck enabled = seen-from ends
+      walked-stuck enabled = seen-from paid
         where
           -- Elsewhere it is not possible either.
           stops : (q : Stretch) (read : Bool) (n : ℕ) → EvenOn at s w q read n → (l : ℕ) → (c ≡ 0 → read ≡ false)
@@ -335,12 +346,12 @@ module _ {at : site.Site} {s : Segment} {w : List ℕ} (ok : Seeable at s w) whe
               (λ b. b)
               (unmoved-inner of (so .from) h .0 f)
 
-          ends : Evenly at s w (Ends at t c false (eqb c 0))
-          ends q false n of l = (
+          paid : Evenly at s w (Ends at t c false (eqb c 0))
+          paid q false n of l = (
             λ f. inr (stops q false n of l (λ z. refl) f),
             ⊎-elim (λ p. absurd (true≢false (sym (p .0)))) (writes-back of (so .from) (so .inside)),
           )
-          ends q true n of l =
+          paid q true n of l =
               by-test (eqb c 0)
               (λ none.
               let z = eqb→eq c 0 none in (
@@ -357,10 +368,10 @@ module _ {at : site.Site} {s : Segment} {w : List ℕ} (ok : Seeable at s w) whe
     -- All events: what follows them accepts the code, or does not.
     pub walked-all : {other : Bool} → s .end ≤ t → other ≡ accepting (s .closing) false c
         → Seeing at s w (record { other = other; same = other || eqb c 0; owned = owned })
-    walked-all {other} h is = seen-from ends
+    walked-all {other} h is = seen-from paid
       where
-        ends : Evenly at s w (Ends at t c other (other || eqb c 0))
-        ends q read n of l =
+        paid : Evenly at s w (Ends at t c other (other || eqb c 0))
+        paid q read n of l =
             let accepts : accepting (s .closing) read c ≡ cond read (other || eqb c 0) other =
             rw is (accepts-read (s .closing) c read)
             in

@@ -4,10 +4,10 @@ use native.Mathlib.Nat.{le-refl, le-trans}
 use native.Mathlib.Decide.{decLe}
 use native.Mathlib.Omega.{arith}
 use mathlib.Core.Path.{_≡_, refl, _∙_}
-use mathlib.Core.Bool.{Bool, true, false}
+use mathlib.Core.Bool.{Bool, true, false, cond}
 use mathlib.Core.List.{List}
-use borrow.Author.Tests.{eq-eqb, ne-eqb, lt-ltb, le-ltb, le-leb, lt-leb}
-use lib.Dec.{eqb}
+use borrow.Author.Tests.{eq-eqb, ne-eqb, lt-ltb, le-ltb, le-leb}
+use lib.Dec.{eqb, ltb}
 use lib.ListN.{length}
 use Rattle.model.specs.Cxl0.{Value}
 use Rattle.model.specs.OneLocation as sites
@@ -18,7 +18,7 @@ use Rattle.scratch.specs.Words.{eventIn}
 use Rattle.scratch.proofs.Frames.{only-then, only-wider}
 use Rattle.levels.specs.Stretches.{FAR}
 use Rattle.levels.specs.declared.Task.{Task}
-use Rattle.levels.specs.Tasks.{backIn, Tasked, Ready, Fewest, OnlyLevels}
+use Rattle.levels.specs.Tasks.{backIn, Tasked, Ready, Fewest}
 use Rattle.levels.proofs.Stretching.{ending, dry}
 use Rattle.levels.proofs.Tasks.{tasked-kept, ready-kept}
 use Rattle.segments.specs.declared.words.Segment.{Segment}
@@ -26,14 +26,15 @@ use Rattle.segments.specs.declared.words.Block.{Block}
 use Rattle.segments.specs.declared.words.Costs as costs
 use Rattle.segments.specs.declared.backing.Bounds.{Bounds}
 use Rattle.segments.specs.declared.seeing.Seen.{Seen}
+use Rattle.segments.specs.declared.weighing.Others.{Others}
 use Rattle.segments.specs.Words.{segmentIn, CostsFit, CostsPut}
 use Rattle.segments.specs.Costs.{lesser, plus, restFrom, otherFrom, Orderly}
 use Rattle.segments.specs.Segments.{Costs, IsSegment, Means, Backs}
 use Rattle.segments.specs.Segments.{stretchOf, clearedOf, againOf, behindOf}
-use Rattle.segments.specs.Weighing.{Backable, Backed, taskOf, keepingOf, Keepable, Keeps, sparedOf}
-use Rattle.segments.specs.Weighing.{Seeable, Even, Seeing, Cheap, Weighable, Weighed}
+use Rattle.segments.specs.Weighing.{Backable, Backed, taskOf, keepingOf}
+use Rattle.segments.specs.Weighing.{Seeable, Even, Seeing, Sameable, Otherable, OthersOf, Weighable, Weighed}
 use Rattle.segments.proofs.Rests.{SameFrom, same-from, rests-same, others-same, orderly-same}
-use Rattle.segments.proofs.Rests.{rest-far, rest-other}
+use Rattle.segments.proofs.Rests.{rest-far, rest-other, other-far}
 use Rattle.segments.proofs.Kept.{Kept, kept-then, kept-between, kept-costs, kept-cost, kept-segment}
 use Rattle.segments.proofs.Kept.{kept-segmented, kept-means}
 use Rattle.segments.proofs.OneMore.{orderly-more, by-value, means-more}
@@ -44,14 +45,6 @@ use Rattle.segments.proofs.Tasks.{Within, tasked-of, tasked-keeping, re
 use Rattle.segments.proofs.Cheapest.{even-kept, seeing-kept}
 
 -- ---- numbers that fit
-
--- What a number can spare is at most FAR.
-spared-far : (a b : ℕ) → sparedOf a b ≤ FAR
-spared-far a b =
-    elim (decLe FAR a) [
-      | yes h ↦ rw (le-leb FAR a h) (le-refl FAR)
-      | no h ↦ rw (lt-leb FAR a (omega arith)) (omega arith)
-    ]
 
 -- A code in a segment's word is one of 64.
 pub segment-code : (w : List ℕ) (l : ℕ) → segmentIn w l .code < 64
@@ -96,6 +89,17 @@ module _ {site : Site} {b : Block} {l least : ℕ} {w : List ℕ} (ok : Weighabl
 
   pub least-far : least ≤ FAR
   least-far = le-trans (ok .bound 0) (rest-far w b (suc l) 0)
+
+  -- With an unread value nothing is cheaper.
+  least-next : least ≤ next
+  least-next = le-trans (ok .bound 0) (rest-other w b (suc l) (ok .orderly) 0)
+
+  behind-far : behindOf s cleared next ≤ FAR
+  behind-far = go (ltb (s .reset) (s .end))
+    where
+      go : (t : Bool) → cond t (cond t (restFrom w b (suc l) (site .initial)) FAR) next ≤ FAR
+      go true = rest-far w b (suc l) (site .initial)
+      go false = other-far w b (suc l)
 
   -- What is left behind the last gap without a copy.
   pub backable : Backable site b l back (againOf s (site .initial) cleared) w
@@ -212,162 +216,159 @@ module _ {site : Site} {b : Block} {l least : ℕ} {w : List ℕ} (ok : Weighabl
       whole-behind : (kept : ℕ) → behindOf s cleared kept ≡ kept
       whole-behind kept = rw (le-ltb (s .reset) (s .end) whole) refl
 
-    pub cheap-same : {seen : Seen} → Seeing site s v seen → Cheap site s (sameTask site b l w r) back seen v
-    cheap-same sight =
+    pub sameable : {seen : Seen} → Seeing site s v seen → Sameable site s (sameTask site b l w r) back seen v
+    sameable sight =
         record {
           ready = ready-task (behindOf s cleared back) true (s .copy) (eq-eqb (s .copy) (s .copy) refl);
           code = segment-code w l;
           small = rest-far w b (suc l) (s .copy);
           even = λ h. even-task h (behindOf s cleared back) true;
-          more = λ h. rw (whole-behind h back) (le-refl back);
+          last = λ h. whole-behind h back;
           sight = sight;
         }
 
-    few-gaps : s .end ≤ MOST
-    few-gaps = le-trans (segment .inside) short
-
-    -- In the areas v1, v2 and v3 masks have changed.
+    -- In the areas v1 and v2 masks have changed.
     module _ {same : ℕ} {v1 : List ℕ}
         (first : Fewest (sameTask site b l w r) (s .first) (s .code) FAR v same v1) where
-      pub cheap-other : {seen : Seen} → Seeing site s v seen → Cheap site s (otherTask site b l w r) back seen v1
-      cheap-other sight =
+      few-gaps : s .end ≤ MOST
+      few-gaps = le-trans (segment .inside) short
+
+      pub otherable : {seen : Seen} → Seeing site s v seen
+          → Otherable site s (otherTask site b l w r) back least seen v1
+      otherable sight =
           record {
             ready =
                 ready-kept (otherTask site b l w r) (s .first) few-gaps
                 (first .frame) (ready-task (behindOf s cleared next) false (suc (s .copy)) another);
+            keeping =
+                λ h.
+                ready-kept (keepingOf site s) (s .first) few-gaps (first .frame)
+                (ready-kept-task (suc (s .copy)) another);
             code = segment-code w l;
-            small = rest-far w b (suc l) (s .copy);
+            small = (rest-far w b (suc l) (s .copy), behind-far);
             even = λ h. even-kept few-gaps (first .frame) (even-task h (behindOf s cleared next) false);
-            more = λ h. rw (whole-behind h next) (rest-other w b (suc l) (ok .orderly) (s .copy));
+            spares = λ h. rw (whole-behind h next) least-next;
             sight = seeing-kept few-gaps (first .frame) sight;
           }
 
-      module _ {other : ℕ} {v2 : List ℕ}
-          (second : Fewest (otherTask site b l w r) (s .first) (s .code) FAR v1 other v2) where
-        levels : OnlyLevels (s .first) (s .end) v v2
-        levels = only-then (first .frame) (second .frame)
+      module _ {others : Others} {v2 : List ℕ}
+          (second : OthersOf site s (otherTask site b l w r) least v1 others v2) where
+        abbrev other : ℕ
+        other = others .other
 
-        pub seen-second : {seen : Seen} → Seeing site s v seen → Seeing site s v2 seen
-        seen-second = seeing-kept few-gaps levels
+        abbrev keep : ℕ
+        keep = others .keep
 
-        pub keepable : Keepable site s (sparedOf other least) v2
-        keepable =
+        abbrev numbers : costs.Costs
+        numbers = record { keep = keep; other = other; same = same; back = back }
+
+        -- They are found in the stretches of the segment.
+        found : Found k v b l least numbers
+        found =
+            let here = kept-backs .segments l in
+            let rest = rests-same same-backs b (suc l) (le-refl _) in
             let few = le-trans (segment .inside) short in
             record {
-              task = λ h. ready-kept (keepingOf site s) (s .first) few levels (ready-kept-task (suc (s .copy)) another);
-              code = segment-code w l;
-              most = spared-far other least;
+              same =
+                  rw (here, rest (s .copy), rest (site .initial))
+                  (first .counted (stretchOf k v s (s .copy) (behindOf s cleared back))
+                  (tasked-task (behindOf s cleared back) true (s .copy) (eq-eqb (s .copy) (s .copy) refl)));
+              other =
+                  rw (here, others-same same-backs b (suc l) (le-refl _), rest (site .initial))
+                  (λ m ne.
+                  second .counts (stretchOf k v s m (behindOf s cleared next))
+                  (tasked-kept (otherTask site b l w r) (s .first) few (first .frame)
+                  (tasked-task (behindOf s cleared next) false m (ne-eqb m (s .copy) ne))));
+              never = rw here (second .keeps .resets);
+              keep =
+                  rw here
+                  (λ h m ne.
+                  second .keeps .counts h (ending (dry (stretchOf k v s m 0)) 0)
+                  (tasked-kept (keepingOf site s) (s .first) few (first .frame)
+                  (tasked-kept-task m (ne-eqb m (s .copy) ne))));
             }
 
-        module _ {keep : ℕ} {v3 : List ℕ} (third : Keeps site s (sparedOf other least) v2 keep v3) where
-          abbrev numbers : costs.Costs
-          numbers = record { keep = keep; other = other; same = same; back = back }
+        orderly-backs : Orderly v b (suc l)
+        orderly-backs = orderly-same same-backs b (ok .orderly)
 
-          -- They are found in the stretches of the segment.
-          found : Found k v b l least numbers
-          found =
-              let here = kept-backs .segments l in
-              let rest = rests-same same-backs b (suc l) (le-refl _) in
-              let few = le-trans (segment .inside) short in
+        means-backs : Means k v b (suc l)
+        means-backs = kept-means kept-backs k b (suc l) short same-backs (ok .means)
+
+        backs : Backs k v b (segmentIn v l)
+        backs = rw (kept-backs .segments l) (backed .backs)
+
+        bound : (m : Value) → least ≤ restFrom v b (suc l) m
+        bound m = rw (rests-same same-backs b (suc l) (le-refl _) m) (ok .bound m)
+
+        right : RightCosts k v b l least numbers
+        right = found-right k v b l least numbers segment-backs orderly-backs means-backs backs bound found
+
+        -- There is room for them, and they fit their words.
+        masks : OnlyIn LEVELS BACKS v v2
+        masks =
+            only-then (only-wider (first .frame) (omega arith) (omega (arith, segment .inside, short)))
+            (second .keeps .frame)
+
+        pub room-there : WORDS ≤ length v2
+        room-there = rw (masks .sized) room-backs
+
+        keep-far : keep ≤ FAR
+        keep-far =
+            let counts = rw (kept-backs .segments l) at (found .keep) in
+            elim (decLe (s .end) (s .reset)) [
+              | yes h ↦ counts h (suc (s .copy)) (λ e. absurd (omega arith)) .most
+              | no h ↦ omega (arith, second .keeps .resets (omega arith))
+            ]
+
+        pub numbers-fit : CostsFit numbers
+        numbers-fit =
+            record {
+              keep = keep-far;
+              other = found .other (suc (segmentIn v l .copy)) (λ e. absurd (omega arith)) .most;
+              same = found .same .most;
+              back = rest-far w b (suc l) (s .copy);
+            }
+
+        -- In the area w' the costs stand.
+        module _ {w' : List ℕ} (put : CostsPut v2 l numbers w') where
+          kept-all : Kept v w'
+          kept-all = kept-then (kept-between masks (omega arith) (omega arith)) (kept-costs l (put .frame))
+
+          changed : OnlyIn LEVELS (SEGMENTS + 2 * l + 2) v w'
+          changed =
+              only-then
+              (only-wider masks (le-refl _) (omega arith))
+              (only-wider (put .frame) (omega arith) (le-refl _))
+
+          same-all : SameFrom (suc l) v w'
+          same-all = same-from changed (suc l) (omega arith)
+
+          pub weighed : Weighed site b l w (lesser (lesser same other) (plus keep least)) w'
+          weighed =
+              let some = by-value b kept-all same-all (put .stored) (ok .here) in
+              let cost : Value → ℕ → Type 0 =
+              Costs k v (b .end) (segmentIn v l .first) (segmentIn v l .copy) (segmentIn v l .code)
+              in
+              let least-of = lesser (lesser same other) (plus keep least) in
               record {
-                same =
-                    rw (here, rest (s .copy), rest (site .initial))
-                    (first .counted (stretchOf k v s (s .copy) (behindOf s cleared back))
-                    (tasked-task (behindOf s cleared back) true (s .copy) (eq-eqb (s .copy) (s .copy) refl)));
-                other =
-                    rw (here, others-same same-backs b (suc l) (le-refl _), rest (site .initial))
-                    (λ m ne.
-                    second .counted (stretchOf k v s m (behindOf s cleared next))
-                    (tasked-kept (otherTask site b l w r) (s .first) few (first .frame)
-                    (tasked-task (behindOf s cleared next) false m (ne-eqb m (s .copy) ne))));
-                never = rw here (third .resets);
-                keep =
-                    rw here
-                    (λ h m ne.
-                    third .counts h (ending (dry (stretchOf k v s m 0)) 0)
-                    (tasked-kept (keepingOf site s) (s .first) few levels
-                    (tasked-kept-task m (ne-eqb m (s .copy) ne))));
+                sized = changed .sized ∙ backed .frame .sized;
+                below = only-then (only-wider (backed .frame) (omega arith) (omega arith)) changed;
+                segments = kept-then kept-backs kept-all .segments;
+                segmented = kept-segmented (kept-then kept-backs kept-all) (ok .segmented);
+                orderly =
+                    orderly-more b kept-all same-all (put .stored) (ok .here) orderly-backs
+                    (right .order) (right .kept);
+                means =
+                    means-more b kept-all same-all (put .stored) (ok .here) k short means-backs
+                    (some cost (right .same) (right .other));
+                back =
+                    rw (
+                      put .stored,
+                      rests-same same-all b (suc l) (le-refl _) (segmentIn w' l .copy),
+                      rests-same same-backs b (suc l) (le-refl _) (segmentIn w' l .copy),
+                      kept-all .segments l,
+                      kept-backs .segments l,
+                    );
+                least =
+                    some (λ (m n : ℕ). least-of ≤ n) (right .least-same) (λ m ne. right .least-other m);
               }
-
-          orderly-backs : Orderly v b (suc l)
-          orderly-backs = orderly-same same-backs b (ok .orderly)
-
-          means-backs : Means k v b (suc l)
-          means-backs = kept-means kept-backs k b (suc l) short same-backs (ok .means)
-
-          backs : Backs k v b (segmentIn v l)
-          backs = rw (kept-backs .segments l) (backed .backs)
-
-          bound : (m : Value) → least ≤ restFrom v b (suc l) m
-          bound m = rw (rests-same same-backs b (suc l) (le-refl _) m) (ok .bound m)
-
-          right : RightCosts k v b l least numbers
-          right = found-right k v b l least numbers segment-backs orderly-backs means-backs backs bound found
-
-          -- There is room for them, and they fit their words.
-          masks : OnlyIn LEVELS BACKS v v3
-          masks = only-then (only-wider levels (omega arith) (omega (arith, segment .inside, short))) (third .frame)
-
-          pub room-there : WORDS ≤ length v3
-          room-there = rw (masks .sized) room-backs
-
-          keep-far : keep ≤ FAR
-          keep-far =
-              let counts = rw (kept-backs .segments l) at (found .keep) in
-              elim (decLe (s .end) (s .reset)) [
-                | yes h ↦ counts h (suc (s .copy)) (λ e. absurd (omega arith)) .most
-                | no h ↦ omega (arith, third .resets (omega arith))
-              ]
-
-          pub numbers-fit : CostsFit numbers
-          numbers-fit =
-              record {
-                keep = keep-far;
-                other = found .other (suc (segmentIn v l .copy)) (λ e. absurd (omega arith)) .most;
-                same = found .same .most;
-                back = rest-far w b (suc l) (s .copy);
-              }
-
-          -- In the area w' the costs stand.
-          module _ {w' : List ℕ} (put : CostsPut v3 l numbers w') where
-            kept-all : Kept v w'
-            kept-all = kept-then (kept-between masks (omega arith) (omega arith)) (kept-costs l (put .frame))
-
-            changed : OnlyIn LEVELS (SEGMENTS + 2 * l + 2) v w'
-            changed =
-                only-then
-                (only-wider masks (le-refl _) (omega arith))
-                (only-wider (put .frame) (omega arith) (le-refl _))
-
-            same-all : SameFrom (suc l) v w'
-            same-all = same-from changed (suc l) (omega arith)
-
-            pub weighed : Weighed site b l w (lesser (lesser same other) (plus keep least)) w'
-            weighed =
-                let some = by-value b kept-all same-all (put .stored) (ok .here) in
-                let cost : Value → ℕ → Type 0 =
-                Costs k v (b .end) (segmentIn v l .first) (segmentIn v l .copy) (segmentIn v l .code)
-                in
-                let least-of = lesser (lesser same other) (plus keep least) in
-                record {
-                  sized = changed .sized ∙ backed .frame .sized;
-                  below = only-then (only-wider (backed .frame) (omega arith) (omega arith)) changed;
-                  segments = kept-then kept-backs kept-all .segments;
-                  segmented = kept-segmented (kept-then kept-backs kept-all) (ok .segmented);
-                  orderly =
-                      orderly-more b kept-all same-all (put .stored) (ok .here) orderly-backs
-                      (right .order) (right .kept);
-                  means =
-                      means-more b kept-all same-all (put .stored) (ok .here) k short means-backs
-                      (some cost (right .same) (right .other));
-                  back =
-                      rw (
-                        put .stored,
-                        rests-same same-all b (suc l) (le-refl _) (segmentIn w' l .copy),
-                        rests-same same-backs b (suc l) (le-refl _) (segmentIn w' l .copy),
-                        kept-all .segments l,
-                        kept-backs .segments l,
-                      );
-                  least =
-                      some (λ (m n : ℕ). least-of ≤ n) (right .least-same) (λ m ne. right .least-other m);
-                }

@@ -14,7 +14,7 @@ use Rattle.model.specs.OneLocation
 use Rattle.model.specs.OneLocation.{clearsSite, enabledAt}
 use Rattle.model.specs.Meaning.{meant}
 use Rattle.model.specs.declared.Event as event
-use Rattle.model.proofs.Tests.{by-test, T→true, true→T, ne-test, and-i, and-l, and-r}
+use Rattle.model.proofs.Tests.{by-test, cond-same, T→true, true→T, ne-test, and-i, and-l, and-r}
 use Rattle.entries.specs.Entries.{siteMeant}
 use Rattle.entries.specs.declared.Site.{Site}
 use Rattle.rows.specs.Rows.{state}
@@ -70,11 +70,6 @@ pub record Fillable (site : Site) (b : Block) (l : ℕ) (s : Segment) (back zeta
   pub ready : Backable site b l back zeta w
   pub segment : s ≡ segmentIn w l
   pub last : w' ≡ set w (BACKS + s .end) back
-
--- Cleared or not, the initial value stays.
-either-way : (t : Bool) (m : ℕ) → cond t m m ≡ m
-either-way true m = refl
-either-way false m = refl
 
 -- Wider bounds.
 wider : {site : Site} {b : Block} {s : Segment} {w : List ℕ} {bounds bounds' : Bounds} {j n m : ℕ}
@@ -156,7 +151,7 @@ module _ {site : Site} {b : Block} {l : ℕ} {s : Segment} {back zeta : ℕ} {w 
         → s .reset < t → Left-at t (site .initial) again
     cleared-step passes d =
         step (site .initial) passes
-        (rw (either-way (clearsSite (eventIn w t) k) (site .initial)) (so .cleared (omega arith)))
+        (rw (cond-same (clearsSite (eventIn w t) k) (site .initial)) (so .cleared (omega arith)))
 
     -- The event resets memory: what is left to pay is what is left with the initial value.
     fill-reset : {bounds' : Bounds} → clearsSite (eventIn w t) k ≡ true → Bounded bounds again bounds'

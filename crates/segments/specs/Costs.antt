@@ -1,11 +1,11 @@
 -- What the segments of a block cost from one of them on, by the memory value at its start, in numbers alone.
 use Prim.Native.Nat.{ℕ, zero, suc, _+_, _-_, _≤_, _<_}
-use mathlib.Core.Bool.{Bool, cond, not, _&&_}
+use mathlib.Core.Bool.{cond, not, _&&_}
 use mathlib.Core.List.{List}
 use lib.Dec.{leb, eqb}
 use Rattle.model.specs.Cxl0.{Value}
 use Rattle.levels.specs.Stretches.{FAR}
-use Rattle.segments.specs.Words.{segmentIn, costsIn, CostsFit}
+use Rattle.segments.specs.Words.{segmentIn, costsIn}
 use Rattle.segments.specs.declared.words.Block.{Block}
 
 -- The lesser of two numbers, and their sum, but no more than FAR.

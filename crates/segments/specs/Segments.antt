@@ -1,12 +1,12 @@
 -- The segments of a block: from a store to the next one copies have one value.
 use Prim.Native.Nat.{ℕ, suc, _+_, _-_, _≤_, _<_}
 use mathlib.Core.Path.{_≡_}
-use mathlib.Core.Logic.{_↔_, _⊎_}
+use mathlib.Core.Logic.{_↔_}
 use mathlib.Core.Bool.{Bool, true, false, cond, not, _&&_}
 use mathlib.Core.List.{List}
-use lib.Dec.{T, eqb, leb, ltb}
+use lib.Dec.{eqb, leb, ltb}
 use Rattle.model.specs.Cxl0.{Value, event}
-use Rattle.model.specs.OneLocation.{Local, Site, clearsSite, enabledAt, effect}
+use Rattle.model.specs.OneLocation.{Site, clearsSite, enabledAt, effect}
 use Rattle.model.specs.Paying.{Pays}
 use Rattle.rows.specs.Rows.{state}
 use Rattle.rows.specs.Sites.{Known}
@@ -15,7 +15,7 @@ use Rattle.scratch.specs.Words.{eventIn, structIn, eventsFrom}
 use Rattle.levels.specs.Stretches.{FAR, Stretch, Inner}
 use Rattle.levels.specs.Tasks.{backIn, accepting}
 use Rattle.segments.specs.Words.{segmentIn}
-use Rattle.segments.specs.Costs.{ending, restFrom}
+use Rattle.segments.specs.Costs.{restFrom}
 use Rattle.segments.specs.declared.words.Segment.{Segment}
 use Rattle.segments.specs.declared.words.Block.{Block}
 

@@ -19,12 +19,13 @@ use Rattle.levels.specs.Stretches.{FAR, Stretch, stateAt, Inner}
 use Rattle.levels.specs.Tasks.{backIn, readsAt, backAt, Ready, Tasked, Counted}
 use Rattle.levels.specs.declared.Task.{Task}
 use Rattle.segments.specs.Words.{segmentIn, costsIn}
-use Rattle.segments.specs.Costs.{lesser, ending, restFrom, otherFrom, Orderly}
+use Rattle.segments.specs.Costs.{lesser, plus, restFrom, Orderly}
 use Rattle.segments.specs.Segments.{Costs, IsSegment, Segmented, Means, Backs}
 use Rattle.segments.specs.declared.words.Segment.{Segment}
 use Rattle.segments.specs.declared.words.Block.{Block}
 use Rattle.segments.specs.declared.backing.Bounds.{Bounds}
 use Rattle.segments.specs.declared.seeing.Seen.{Seen}
+use Rattle.segments.specs.declared.weighing.Others.{Others}
 
 -- ---- the rest of a block
 
@@ -130,13 +131,17 @@ pub record Seeing (site : Site) (s : Segment) (w : List ℕ) (r : Seen) : Type 0
       → Unmoved q (s .first) (s .code) l
       ↔ (((cond read (r .same) (r .other) ≡ true) × (q .last ≤ l)) ⊎ ((r .owned ≡ true) × (n < l)))
 
--- A task of the segment with what was seen of it. Without a reset it is even, and to write nothing back is not less.
-pub record Cheap (site : Site) (s : Segment) (task : Task) (back : ℕ) (seen : Seen) (w : List ℕ) : Type 0 where
+-- What is to pay with a write-back on the way, from the start of a segment without a reset, if n is left after it.
+abbrev pub writtenOf : Segment → ℕ → Seen → ℕ
+writtenOf s n seen = cond (eqb (s .code) 0) FAR (plus n (cond (seen .owned) 1 2))
+
+-- The task of the segment with the value of its copies in memory. Without a reset, that is there behind it too.
+pub record Sameable (site : Site) (s : Segment) (task : Task) (n : ℕ) (seen : Seen) (w : List ℕ) : Type 0 where
   pub ready : Ready task (s .first) w
   pub code : s .code < 64
-  pub small : back ≤ FAR
-  pub even : s .end ≤ s .reset → Even site s w task (task .same) back
-  pub more : s .end ≤ s .reset → back ≤ task .last
+  pub small : n ≤ FAR
+  pub even : s .end ≤ s .reset → Even site s w task true n
+  pub last : s .end ≤ s .reset → task .last ≡ n
   pub sight : Seeing site s w seen
 
 -- ---- keeping a memory value
@@ -156,6 +161,26 @@ pub record Keeps (site : Site) (s : Segment) (below : ℕ) (w : List ℕ) (r : �
 -- How much more one number is than another; FAR is more than any.
 abbrev pub sparedOf : ℕ → ℕ → ℕ
 sparedOf a b = cond (leb FAR a) FAR (a - b)
+
+-- The number, if it is below the bound, else FAR.
+abbrev pub onlyBelow : ℕ → ℕ → ℕ
+onlyBelow n bound = cond (ltb n bound) n FAR
+
+-- The task of the segment with another value in memory.
+pub record Otherable (site : Site) (s : Segment) (task : Task) (n least : ℕ) (seen : Seen) (w : List ℕ) : Type 0 where
+  pub ready : Ready task (s .first) w
+  pub keeping : s .end ≤ s .reset → Ready (keepingOf site s) (s .first) w
+  pub code : s .code < 64
+  pub small : (n ≤ FAR) × (task .last ≤ FAR)
+  pub even : s .end ≤ s .reset → Even site s w task false n
+  pub spares : s .end ≤ s .reset → least ≤ task .last
+  pub sight : Seeing site s w seen
+
+-- What is to pay then, and what keeping the value costs.
+pub record OthersOf (site : Site) (s : Segment) (task : Task) (least : ℕ) (w : List ℕ) (r : Others) (w' : List ℕ) :
+    Type 0 where
+  pub counts : (q : Stretch) → Tasked task (s .first) w q → Counted q (s .first) (s .code) FAR (r .other)
+  pub keeps : Keeps site s (sparedOf (r .other) least) w (r .keep) w'
 
 -- ---- one segment more
 

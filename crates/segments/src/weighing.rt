@@ -19,13 +19,19 @@ use levels::Task;
 use levels::fewest;
 use model::Machine;
 ghost use mathlib.Core.Path.{_≡_};
-ghost use mathlib.Core.Bool.{cond};
 ghost use Prim.Native.Nat.{_+_, _≤_};
 ghost use Rattle.levels.specs.Stretches.{FAR};
 ghost use Rattle.levels.specs.Tasks.{Fewest};
 ghost use Rattle.segments.specs.Segments.{clearedOf, againOf, behindOf};
-ghost use Rattle.segments.specs.Weighing.{taskOf, keepingOf, Restable, sparedOf, Keepable, Keeps};
-ghost use Rattle.segments.specs.Weighing.{Seeing, Cheap, Weighable, Weighed};
+ghost use Rattle.segments.specs.Weighing.{taskOf, keepingOf, Restable, Seeing, writtenOf, Sameable};
+ghost use Rattle.segments.specs.Weighing.{Keepable, Keeps, sparedOf, onlyBelow, Otherable, OthersOf};
+ghost use Rattle.segments.specs.Weighing.{Weighable, Weighed};
+
+// What is to pay with a memory value that no event reads, and to keep one that the segment does not read.
+pub struct Others {
+    pub other: u64,
+    pub keep: u64,
+}
 
 // The segment with memory that has the value of the copies, or not, and `last` to pay behind it.
 pub fn task(site: Site, s: Segment, same: bool, last: u64, bounds: Bounds) -> Task
@@ -100,37 +106,38 @@ pub fn behind(s: Segment, after: u64, kept: u64) -> u64
     if s.reset < s.end { after } else { kept }
 }
 
-// The events run to the segment's end without a step, with the memory value of the task.
-fn through(q: Task, seen: Seen) -> bool
-    ensures { λ r. ⌜ r ≡ cond (q .same) (seen .same) (seen .other) ⌝ }
+// What is to pay with a write-back on the way, from the start of a segment without a reset; `back` is left after it. It
+// takes one step where the owner has a copy or gets one without a step, else two; without a copy there is none.
+fn written(s: Segment, back: u64, seen: Seen) -> u64
+    requires { ⌜ back ≤ FAR ⌝ }
+    ensures { λ r. ⌜ r ≡ writtenOf s back seen ⌝ }
 {
-    if q.same { seen.same } else { seen.other }
-}
-
-// The fewest steps to pay from the start of a segment, one of whose tasks is q. Unless it has a reset, `back` steps are
-// left after a write-back anywhere, and that takes one step where the owner has a copy or gets one without a step, else
-// two.
-fn cheapest(w: &mut [u64], site: Site, s: Segment, q: Task, back: u64, seen: Seen) -> u64
-    requires { ⌜ Cheap site s q back seen (now w) ⌝ }
-    ensures { λ r. ⌜ Fewest q (s .first) (s .code) FAR (now (w .entry)) r (now (w .exit)) ⌝ }
-{
-    if (s.reset < s.end) | (s.code == 0) | (FAR <= back + 2) {
-        return fewest(w, q, s.first, s.code, FAR);
-    }
-    if through(q, seen) & (q.last <= back + 1) {
-        return q.last;
+    if s.code == 0 {
+        return FAR;
     }
     if seen.owned {
-        return back + 1;
+        return add(back, 1);
     }
-    if back < q.last {
-        return back + 2;
+    add(back, 2)
+}
+
+// What is to pay from the start of a segment with the value of its copies in memory, which is its task q. Where the
+// events do not run through, it is at most what a write-back costs.
+fn same_cost(w: &mut [u64], site: Site, s: Segment, q: Task, back: u64, seen: Seen) -> u64
+    requires { ⌜ Sameable site s q back seen (now w) ⌝ }
+    ensures { λ r. ⌜ Fewest q (s .first) (s .code) FAR (now (w .entry)) r (now (w .exit)) ⌝ }
+{
+    if s.reset < s.end {
+        return fewest(w, q, s.first, s.code, FAR);
     }
-    let less = fewest(w, q, s.first, s.code, back + 2);
-    if less < FAR {
-        return less;
+    if seen.same {
+        return back;
     }
-    back + 2
+    let paid = written(s, back, seen);
+    if paid <= back + 1 {
+        return paid;
+    }
+    least_of(paid, fewest(w, q, s.first, s.code, paid))
 }
 
 // What keeping a memory value costs in a segment. From `below` on, that is no better than any value.
@@ -160,6 +167,42 @@ fn spared(a: u64, b: u64) -> u64
     if a <= b { 0 } else { a - b }
 }
 
+// The number, if it is below the bound, else FAR.
+fn only_below(n: u64, bound: u64) -> u64
+    ensures { λ r. ⌜ r ≡ onlyBelow n bound ⌝ }
+{
+    if n < bound { n } else { FAR }
+}
+
+// What is to pay from the start of a segment with another value in memory, which is its task q, and to keep it; `least`
+// is at most what the segments after it cost. Without a reset, either the value is kept or the copies are written back.
+fn other_costs(
+    w: &mut [u64],
+    site: Site,
+    s: Segment,
+    q: Task,
+    back: u64,
+    least: u64,
+    seen: Seen,
+) -> Others
+    requires { ⌜ Otherable site s q back least seen (now w) ⌝ }
+    ensures { λ r. ⌜ OthersOf site s q least (now (w .entry)) r (now (w .exit)) ⌝ }
+{
+    if s.reset < s.end {
+        return Others {
+            other: fewest(w, q, s.first, s.code, FAR),
+            keep: FAR,
+        };
+    }
+    let paid = written(s, back, seen);
+    let kept = keep(w, site, s, spared(paid, least), seen);
+    let other = least_of(paid, add(kept, q.last));
+    Others {
+        other,
+        keep: only_below(kept, spared(other, least)),
+    }
+}
+
 // Puts the costs of segment l; `least` is at most what the segments after it cost, with any memory value. Hands back
 // such a number for this segment.
 pub fn weigh(w: &mut [u64], site: Site, b: Block, l: usize, least: u64) -> u64
@@ -172,7 +215,7 @@ pub fn weigh(w: &mut [u64], site: Site, b: Block, l: usize, least: u64) -> u64
     let after = cleared(&*w, site, b, l, s);
     let bounds = fill_backs(w, site, b, l, s, back, again(site, s, after));
     let seen = see(&*w, site, s);
-    let same = cheapest(
+    let same = same_cost(
         w,
         site,
         s,
@@ -180,24 +223,24 @@ pub fn weigh(w: &mut [u64], site: Site, b: Block, l: usize, least: u64) -> u64
         back,
         seen,
     );
-    let other = cheapest(
+    let others = other_costs(
         w,
         site,
         s,
         task(site, s, false, behind(s, after, next), bounds),
         back,
+        least,
         seen,
     );
-    let keep = keep(w, site, s, spared(other, least), seen);
     put_costs(
         w,
         l,
         Costs {
-            keep,
-            other,
+            keep: others.keep,
+            other: others.other,
             same,
             back,
         },
     );
-    least_of(least_of(same, other), add(keep, least))
+    least_of(least_of(same, others.other), add(others.keep, least))
 }

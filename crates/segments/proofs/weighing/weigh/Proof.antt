@@ -1,6 +1,5 @@
 -- `weigh` puts the costs of one segment more: each is found in its stretches.
 use Prim.Native.Nat.{ℕ, suc, _+_, _≤_, _<_}
-use native.Mathlib.Nat.{le-refl}
 use native.Mathlib.Numerals.{add-one}
 use native.Mathlib.Omega.{arith}
 use mathlib.Core.Path.{_≡_, sym, ap, ap₂, subst, _∙_}
@@ -12,7 +11,7 @@ use borrow.Author.Needs.{needs}
 use Rattle.entries.specs.declared.Site.{Site}
 use Rattle.scratch.specs.Layout.{WORDS}
 use Rattle.levels.specs.Stretches.{FAR}
-use Rattle.levels.specs.Tasks.{Ready, Fewest}
+use Rattle.levels.specs.Tasks.{Fewest}
 use Rattle.levels.specs.declared.Task.{Task}
 use Rattle.segments.specs.declared.words.Segment.{Segment}
 use Rattle.segments.specs.declared.words.Costs as costs
@@ -20,12 +19,10 @@ use Rattle.segments.specs.declared.backing.Bounds.{Bounds}
 use Rattle.segments.specs.Words.{segmentIn, CostsFit, CostsPut}
 use Rattle.segments.specs.Costs.{lesser, plus, restFrom, otherFrom}
 use Rattle.segments.specs.Segments.{clearedOf, againOf, behindOf}
-use Rattle.segments.specs.declared.seeing.Seen.{Seen}
-use Rattle.segments.specs.Weighing.{Seeable, Seeing, Cheap}
-use Rattle.segments.specs.Weighing.{Restable, Backable, Backed, taskOf, Keepable, Keeps, sparedOf, Weighed}
+use Rattle.segments.specs.Weighing.{Seeable, Seeing, Sameable, Otherable, OthersOf}
+use Rattle.segments.specs.Weighing.{Restable, Backable, Backed, taskOf, Weighed}
 use Rattle.segments.proofs.Weighed.{segment-code, sameTask, otherTask, least-far, backable, bounds-far}
-use Rattle.segments.proofs.Weighed.{seeable, cheap-same, cheap-other, seen-second}
-use Rattle.segments.proofs.Weighed.{keepable, room-there, numbers-fit, weighed}
+use Rattle.segments.proofs.Weighed.{seeable, sameable, otherable, room-there, numbers-fit, weighed}
 use Rattle.segments.proofs.weighing.weigh.Statement.{statement}
 use Rattle.segments.proofs.weighing.weigh.Tie as tie
 
@@ -47,12 +44,12 @@ fewest-again {t' = t'} {g} {below = below} {r} {w} {w'} task segment fewest =
     subst (λ (h : Segment). Fewest t' (h .first) (h .code) below w r w') segment
     (subst (λ (u : Task). Fewest u (g .first) (g .code) below w r w') task fewest)
 
-cheap-again : {site : Site} {t t' : Task} {g g' : Segment} {n n' : ℕ} {seen : Seen} {w : List ℕ} → t ≡ t' → g ≡ g'
-    → n ≡ n' → Cheap site g t n seen w → Cheap site g' t' n' seen w
-cheap-again {site} {t' = t'} {g} {g'} {n} {seen = seen} {w} task segment number cheap =
-    subst (λ (m : ℕ). Cheap site g' t' m seen w) number
-    (subst (λ (h : Segment). Cheap site h t' n seen w) segment
-    (subst (λ (u : Task). Cheap site g u n seen w) task cheap))
+-- A statement about a segment, a task and a number.
+all-again : (P : Segment → Task → ℕ → Type 0) {g g' : Segment} {t t' : Task} {n n' : ℕ} → g ≡ g' → t ≡ t' → n ≡ n'
+    → P g t n → P g' t' n'
+all-again P {g} {g'} {t} {t'} {n} segment task number p =
+    subst (λ (m : ℕ). P g' t' m) number
+    (subst (λ (u : Task). P g' u n) task (subst (λ (h : Segment). P h t n) segment p))
 
 -- ---- what is read of the segments
 
@@ -192,22 +189,23 @@ same-task c =
     let last = behind-again (c .before .behind .ensures) (segment-right r) (cleared-right r) (back-right r) in
     task-again (start r .args .site) true (f .fill-backs .result) (c .task .ensures) (segment-right r) last
 
-cheapest-requires : tie.Need-cheapest-requires
-cheapest-requires c κs =
+same-cost-requires : tie.Need-same-cost-requires
+same-cost-requires c κs =
     let f = filling c in
     let r = numbered f in
-    cheap-again (sym (same-task c)) (sym (segment-right r)) (sym (back-right r))
-    (cheap-same (start r .pre) (backed f) (sight (asking c)))
+    all-again (λ g t n. Sameable (start r .args .site) g t n (asking c .see .result) (filled f))
+    (sym (segment-right r)) (sym (same-task c)) (sym (back-right r))
+    (sameable (start r .pre) (backed f) (sight (asking c)))
 
-same-found : (c : tie.After-cheapest) → let f = filling (c .before) in let s = start (numbered f) in
+same-found : (c : tie.After-same-cost) → let f = filling (c .before) in let s = start (numbered f) in
     Fewest (sameTask (s .args .site) (s .args .b) (s .args .l) (words s) (f .fill-backs .result))
-    (segment s .first) (segment s .code) FAR (filled f) (c .cheapest .result) (c .cheapest .last .0)
+    (segment s .first) (segment s .code) FAR (filled f) (c .same-cost .result) (c .same-cost .last .0)
 same-found c =
-    fewest-again (same-task (c .before)) (segment-right (numbered (filling (c .before)))) (c .cheapest .ensures)
+    fewest-again (same-task (c .before)) (segment-right (numbered (filling (c .before)))) (c .same-cost .ensures)
 
 -- ---- and with an unread value
 
-abbrev first : tie.After-task2 → tie.After-cheapest
+abbrev first : tie.After-task2 → tie.After-same-cost
 first c = c .before .before .before .before .before
 
 abbrev filling-2 : tie.After-task2 → tie.After-fill-backs
@@ -226,80 +224,51 @@ task-requires-2 c κs =
     let f = filling (c .before .before .before .before .before) in
     bounds-far (start (numbered f) .pre) (backed f)
 
-cheapest-requires-2 : tie.Need-cheapest-requires-2
-cheapest-requires-2 c κs =
+other-costs-requires : tie.Need-other-costs-requires
+other-costs-requires c κs =
     let f = filling-2 c in
     let r = numbered f in
-    cheap-again (sym (other-task c)) (sym (segment-right r)) (sym (back-right r))
-    (cheap-other (start r .pre) (backed f) (same-found (first c)) (sight (asking (first c .before))))
+    let a = start r .args in
+    let e = asking (first c .before) in
+    all-again (λ g t n. Otherable (a .site) g t n (a .least) (e .see .result) (first c .same-cost .last .0))
+    (sym (segment-right r)) (sym (other-task c)) (sym (back-right r))
+    (otherable (start r .pre) (backed f) (same-found (first c)) (sight e))
 
-other-found : (c : tie.After-cheapest2) → let f = filling-2 (c .before) in let s = start (numbered f) in
-    Fewest (otherTask (s .args .site) (s .args .b) (s .args .l) (words s) (f .fill-backs .result))
-    (segment s .first) (segment s .code) FAR
-    (first (c .before) .cheapest .last .0) (c .cheapest2 .result) (c .cheapest2 .last .0)
-other-found c =
-    fewest-again (other-task (c .before)) (segment-right (numbered (filling-2 (c .before)))) (c .cheapest2 .ensures)
-
--- ---- keeping a memory value
-
-abbrev second : tie.After-spared → tie.After-cheapest2
-second c = c .before .before .before .before
-
-abbrev filling-3 : tie.After-spared → tie.After-fill-backs
-filling-3 c = filling-2 (second c .before)
-
-keep-requires : tie.Need-keep-requires
-keep-requires c κs =
-    let f = filling-3 c in
-    let r = numbered f in
-    let site = start r .args .site in
-    let v = second c .cheapest2 .last .0 in
-    let same = same-found (first (second c .before)) in
-    let other = other-found (second c) in
-    let e = asking (first (second c .before) .before) in
-    let there = keepable (start r .pre) (backed f) same other in
-    let seen = seen-second (start r .pre) (backed f) same other (sight e) in (
-      subst (λ (g : Segment). Keepable site g (c .spared .result) v) (sym (segment-right r))
-          (subst (λ (n : ℕ). Keepable site (segment (start r)) n v) (sym (c .spared .ensures)) there),
-      subst (λ (g : Segment). Seeing site g v (e .see .result)) (sym (segment-right r)) seen,
-    )
-
-keep-found : (c : tie.After-keep) → let s = start (numbered (filling-3 (c .before))) in
-    Keeps (s .args .site) (segment s) (sparedOf (second (c .before) .cheapest2 .result) (s .args .least))
-    (second (c .before) .cheapest2 .last .0) (c .keep .result) (c .keep .last .0)
-keep-found c =
-    let r = numbered (filling-3 (c .before)) in
-    let site = start r .args .site in
-    let v = second (c .before) .cheapest2 .last .0 in
-    let found = c .keep in
-    subst (λ (n : ℕ). Keeps site (segment (start r)) n v (found .result) (found .last .0)) (c .before .spared .ensures)
-    (subst (λ (g : Segment). Keeps site g (c .before .spared .result) v (found .result) (found .last .0))
-    (segment-right r) (found .ensures))
+others-found : (c : tie.After-other-costs) → let f = filling-2 (c .before) in let s = start (numbered f) in
+    OthersOf (s .args .site) (segment s)
+    (otherTask (s .args .site) (s .args .b) (s .args .l) (words s) (f .fill-backs .result)) (s .args .least)
+    (first (c .before) .same-cost .last .0) (c .other-costs .result) (c .other-costs .last .0)
+others-found c =
+    let r = numbered (filling-2 (c .before)) in
+    let a = start r .args in
+    let v = first (c .before) .same-cost .last .0 in
+    let found = c .other-costs in
+    all-again (λ g t n. OthersOf (a .site) g t (a .least) v (found .result) (found .last .0))
+    (segment-right r) (other-task (c .before)) (back-right r) (found .ensures)
 
 -- ---- the costs
 
 -- What was found, with a number for `back`, and the numbers that were read before.
-abbrev numbers : tie.After-keep → ℕ → costs.Costs
+abbrev numbers : tie.After-other-costs → ℕ → costs.Costs
 numbers c n =
     record {
-      keep = c .keep .result;
-      other = second (c .before) .cheapest2 .result;
-      same = first (second (c .before) .before) .cheapest .result;
+      keep = c .other-costs .result .keep;
+      other = c .other-costs .result .other;
+      same = first (c .before) .same-cost .result;
       back = n;
     }
 
-abbrev reading : tie.After-keep → tie.After-cleared
-reading c = numbered (filling-3 (c .before))
+abbrev reading : tie.After-other-costs → tie.After-cleared
+reading c = numbered (filling-2 (c .before))
 
 -- They fit their words, for which there is room.
-fits : (c : tie.After-keep)
-    → (WORDS ≤ length (c .keep .last .0)) × CostsFit (numbers c (back (start (reading c))))
+fits : (c : tie.After-other-costs)
+    → (WORDS ≤ length (c .other-costs .last .0)) × CostsFit (numbers c (back (start (reading c))))
 fits c =
-    let f = backed (filling-3 (c .before)) in
-    let same = same-found (first (second (c .before) .before)) in
-    let other = other-found (second (c .before)) in
+    let f = backed (filling-2 (c .before)) in
+    let same = same-found (first (c .before)) in
     let ok = start (reading c) .pre in
-    (room-there ok f same other (keep-found c), numbers-fit ok f same other (keep-found c))
+    (room-there ok f same (others-found c), numbers-fit ok f same (others-found c))
 
 put-costs-requires : tie.Need-put-costs-requires
 put-costs-requires c κs =
@@ -316,24 +285,22 @@ add-requires c κs =
     (fits h .1 .keep, least-far (start (reading h) .pre))
 
 -- They stand in the area.
-abbrev keeping : tie.After-put-costs → tie.After-keep
-keeping c = c .before .before .before .before
+abbrev finding : tie.After-put-costs → tie.After-other-costs
+finding c = c .before .before .before .before
 
-stands : (c : tie.After-put-costs) → let s = start (reading (keeping c)) in
-    let n = numbers (keeping c) 0 in
+stands : (c : tie.After-put-costs) → let s = start (reading (finding c)) in
+    let n = numbers (finding c) 0 in
     Weighed (s .args .site) (s .args .b) (s .args .l) (words s)
     (lesser (lesser (n .same) (n .other)) (plus (n .keep) (s .args .least))) (c .put-costs .last .0)
 stands c =
-    let h = keeping c in
+    let h = finding c in
     let s = start (reading h) in
-    let f = backed (filling-3 (h .before)) in
-    let same = same-found (first (second (h .before) .before)) in
-    let other = other-found (second (h .before)) in
+    let f = backed (filling-2 (h .before)) in
     let put =
-    subst (λ (n : ℕ). CostsPut (h .keep .last .0) (s .args .l) (numbers h n) (c .put-costs .last .0))
+    subst (λ (n : ℕ). CostsPut (h .other-costs .last .0) (s .args .l) (numbers h n) (c .put-costs .last .0))
     (back-right (reading h)) (c .put-costs .ensures)
     in
-    weighed (s .pre) f same other (keep-found h) put
+    weighed (s .pre) f (same-found (first (h .before))) (others-found h) put
 
 same-length : tie.Need-same-length
 same-length c = stands (c .before .before .before .before .before) .sized
@@ -342,7 +309,7 @@ same-length c = stands (c .before .before .before .before .before) .sized
 returns : tie.Need-returns
 returns c =
     let put = c .before .before .before .before .before in
-    let s = start (reading (keeping put)) in
+    let s = start (reading (finding put)) in
     let least = c .least-of2 .ensures ∙ ap₂ lesser (c .before .before .least-of .ensures) (c .before .add .ensures) in
     subst (λ (n : ℕ). Weighed (s .args .site) (s .args .b) (s .args .l) (words s) n (put .put-costs .last .0))
     (sym least) (stands put)
@@ -362,12 +329,10 @@ weigh-spec =
     see-requires
     (λ c κs. search needs)
     task-requires
-    cheapest-requires
+    same-cost-requires
     (λ c κs. search needs)
     task-requires-2
-    cheapest-requires-2
-    (λ c κs. search needs)
-    keep-requires
+    other-costs-requires
     put-costs-requires
     (λ c κs. search needs)
     add-requires
