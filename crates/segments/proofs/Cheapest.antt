@@ -39,13 +39,13 @@ use Rattle.segments.proofs.Unmoved.{EvenOn, none-written}
 
 module _ (q : Stretch) where
   -- What finishes without a move finishes.
-  pub unmoved-finishes : {t c l : ℕ} → Unmoved q t c l → Finishes q t c l
+  unmoved-finishes : {t c l : ℕ} → Unmoved q t c l → Finishes q t c l
   unmoved-finishes (out e a h) = ends e a h
   unmoved-finishes (on b e f) = acts b e (unmoved-finishes f)
   unmoved-finishes (back h b) = writes h b
 
   -- Within the lowest number of steps nothing finishes with a move.
-  pub lowest-unmoved : (from low : ℕ) → low ≤ q .last → ((t : ℕ) → from ≤ t → t ≤ q .end → low ≤ suc (q .back t))
+  lowest-unmoved : (from low : ℕ) → low ≤ q .last → ((t : ℕ) → from ≤ t → t ≤ q .end → low ≤ suc (q .back t))
       → {t c l : ℕ} → from ≤ t → t ≤ q .end → l ≤ low → Finishes q t c l → Unmoved q t c l
   lowest-unmoved from low last behind a b h (ends e v n) = out e v n
   lowest-unmoved from low last behind a b h (acts d e f) =
@@ -88,7 +88,7 @@ seeing-kept {site} {s} {w = w} {w'} few only sight =
 -- ---- a write-back after a move
 
 -- From a code that has a copy, the owner has one after at most one move, which can be written back.
-pub written : (q : Stretch) (t c n : ℕ) → 1 ≤ q .site .owner → c < 64 → c ≢ 0 → q .back t ≡ n
+written : (q : Stretch) (t c n : ℕ) → 1 ≤ q .site .owner → c < 64 → c ≢ 0 → q .back t ≡ n
     → Finishes q t c (suc (suc n))
 unfolding moved
 written q t c n named fits some e = by-owner (has k c) refl
@@ -156,6 +156,7 @@ unended task =
       high = task .high;
     }
 
+-- It is even too,
 unended-even : {site : Site} {s : Segment} {w : List ℕ} {task : Task} {read : Bool} {n : ℕ}
     → Even site s w task read n → Even site s w (unended task) read n
 unended-even even =
@@ -167,6 +168,7 @@ unended-even even =
       backs = even .backs;
     }
 
+-- and its stretch is that of the task with nothing behind it.
 unended-tasked : {task : Task} {from : ℕ} {w : List ℕ} {q : Stretch} → Tasked task from w q
     → Tasked (unended task) from w (ending q FAR)
 unended-tasked tasked =
@@ -181,10 +183,11 @@ unended-tasked tasked =
       accepts = tasked .accepts;
     }
 
--- What is seen of it:
+-- What is seen of an even task:
 module _ {site : Site} {s : Segment} {task : Task} {read : Bool} {n : ℕ} {seen : Seen} {w : List ℕ}
     (even : Even site s w task read n) (order : s .first ≤ s .end) (sight : Seeing site s w seen)
     {q : Stretch} (tasked : Tasked task (s .first) w q) where
+  -- The stretch has the gaps of the segment, and n to pay behind a write-back at each.
   ended : q .end ≡ s .end
   ended = tasked .end ∙ even .end
 
@@ -246,7 +249,8 @@ module _ {site : Site} {s : Segment} {task : Task} {read : Bool} {n : ℕ} {seen
         λ b. finishes-more (ending q FAR) two (omega (arith, plus-min n 2)),
       )
 
-  pub by-writing : (l : ℕ) → l < FAR
+  -- One number says it.
+  by-writing : (l : ℕ) → l < FAR
       → Finishes (ending q FAR) (s .first) (s .code) l ↔ (writtenOf s n seen ≤ l)
   by-writing l far = by-test (eqb (s .code) 0) none some
     where
@@ -281,6 +285,7 @@ written-far s n seen = go (eqb (s .code) 0)
 
 module _ {site : Site} {s : Segment} {task : Task} {n : ℕ} {seen : Seen} {w : List ℕ}
     (ok : Sameable site s task n seen w) (whole : s .end ≤ s .reset) where
+  -- What the task says of the segment.
   same-order : s .first ≤ s .end
   same-order = rw (← ok .even whole .end) (ok .ready .order)
 
@@ -291,7 +296,7 @@ module _ {site : Site} {s : Segment} {task : Task} {n : ℕ} {seen : Seen} {w : 
   same-last tasked = tasked .last ∙ ok .last whole
 
   -- A write-back is one way to finish.
-  pub same-writes : {q : Stretch} → Tasked task (s .first) w q → writtenOf s n seen < FAR
+  same-writes : {q : Stretch} → Tasked task (s .first) w q → writtenOf s n seen < FAR
       → Finishes q (s .first) (s .code) (writtenOf s n seen)
   same-writes {q} tasked far =
       linear q (q .last) (s .first) (s .code) (writtenOf s n seen) far .1
@@ -348,6 +353,7 @@ module _ {site : Site} {s : Segment} {task : Task} {n : ℕ} {seen : Seen} {w : 
 -- A segment without a reset, in which the value is not read and nothing is written back:
 module _ {site : Site} {s : Segment} {seen : Seen} {w : List ℕ} (whole : s .end ≤ s .reset)
     (ready : Ready (keepingOf site s) (s .first) w) (sight : Seeing site s w seen) where
+  -- Its task is even.
   even-keeping : Even site s w (keepingOf site s) false FAR
   even-keeping =
       record {
@@ -469,6 +475,7 @@ module _ {site : Site} {s : Segment} {task : Task} {n least : ℕ} {seen : Seen}
     pub keeps-far : kept ≤ FAR
     keeps-far = keeps .counts whole (ending (dry (ok .ready .stretch)) 0) (keeping-tasked (ok .ready .tasked)) .most
 
+    -- The lesser of both ways.
     abbrev others-least : ℕ
     others-least = lesser (writtenOf s n seen) (plus kept (task .last))
 

@@ -146,9 +146,10 @@ pub record Sameable (site : Site) (s : Segment) (task : Task) (n : ℕ) (seen : 
 
 -- ---- keeping a memory value
 
--- What keeping a memory value asks and leaves: of a segment without a reset, the fewest steps of its task.
+-- What keeping a memory value asks and leaves: the fewest steps of its task. A reset keeps none.
 pub record Keepable (site : Site) (s : Segment) (below : ℕ) (w : List ℕ) : Type 0 where
-  pub task : s .end ≤ s .reset → Ready (keepingOf site s) (s .first) w
+  pub whole : s .end ≤ s .reset
+  pub task : Ready (keepingOf site s) (s .first) w
   pub code : s .code < 64
   pub most : below ≤ FAR
 

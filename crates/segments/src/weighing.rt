@@ -140,14 +140,11 @@ fn same_cost(w: &mut [u64], site: Site, s: Segment, q: Task, back: u64, seen: Se
     least_of(paid, fewest(w, q, s.first, s.code, paid))
 }
 
-// What keeping a memory value costs in a segment. From `below` on, that is no better than any value.
+// What keeping a memory value costs in a segment without a reset. From `below` on, that is no better than any value.
 fn keep(w: &mut [u64], site: Site, s: Segment, below: u64, seen: Seen) -> u64
     requires { ⌜ Keepable site s below (now w) × Seeing site s (now w) seen ⌝ }
     ensures { λ r. ⌜ Keeps site s below (now (w .entry)) r (now (w .exit)) ⌝ }
 {
-    if s.reset < s.end {
-        return FAR;
-    }
     if seen.other & (0 < below) {
         return 0;
     }

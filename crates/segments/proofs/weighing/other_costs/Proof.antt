@@ -52,7 +52,8 @@ keep-requires c κs =
     let s = start (plain (c .before .before)) in
     let ok = s .pre in
     let far = subst (λ (n : ℕ). n ≤ FAR) (sym (spared c)) (spared-far (paid s) (s .args .least)) in
-    (record { task = ok .keeping; code = ok .code; most = far }, ok .sight)
+    let whole = plain (c .before .before) .if1 .left in
+    (record { whole = whole; task = ok .keeping whole; code = ok .code; most = far }, ok .sight)
 
 -- What it costs to keep the value, below that.
 abbrev asked : tie.After-keep → tie.Else1
