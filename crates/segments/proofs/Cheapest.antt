@@ -33,7 +33,7 @@ use Rattle.segments.specs.Weighing.{Unmoved, out, on, back, Even, Seeing
 use Rattle.segments.specs.Weighing.{keepingOf, Keeps, sparedOf, onlyBelow, Otherable, OthersOf}
 use Rattle.segments.proofs.Rests.{lesser-min, plus-min, plus-far}
 use Rattle.segments.proofs.TwoWays.{two-ways}
-use Rattle.segments.proofs.Unmoved.{EvenOn, none-written}
+use Rattle.segments.proofs.Unmoved.{EvenOn, end-is, owner-is, back-is, none-written}
 
 -- ---- without a move
 
@@ -156,107 +156,95 @@ unended task =
       high = task .high;
     }
 
--- It is even too,
-unended-even : {site : Site} {s : Segment} {w : List ℕ} {task : Task} {read : Bool} {n : ℕ}
-    → Even site s w task read n → Even site s w (unended task) read n
-unended-even even =
+-- Its stretch is that of the task with nothing behind it.
+unended-on : {site : Site} {s : Segment} {w : List ℕ} {q : Stretch} {read : Bool} {n : ℕ} → EvenOn site s w q read n
+    → EvenOn site s w (ending q FAR) read n
+unended-on of =
     record {
-      owner = even .owner;
-      end = even .end;
-      closing = even .closing;
-      reads = even .reads;
-      backs = even .backs;
+      task = unended (of .task);
+      even =
+          record {
+            owner = of .even .owner;
+            end = of .even .end;
+            closing = of .even .closing;
+            reads = of .even .reads;
+            backs = of .even .backs;
+          };
+      tasked =
+          record {
+            owner = of .tasked .owner;
+            end = of .tasked .end;
+            last = refl;
+            events = of .tasked .events;
+            inner = of .tasked .inner;
+            backs = of .tasked .backs;
+            reads = of .tasked .reads;
+            accepts = of .tasked .accepts;
+          };
     }
 
--- and its stretch is that of the task with nothing behind it.
-unended-tasked : {task : Task} {from : ℕ} {w : List ℕ} {q : Stretch} → Tasked task from w q
-    → Tasked (unended task) from w (ending q FAR)
-unended-tasked tasked =
-    record {
-      owner = tasked .owner;
-      end = tasked .end;
-      last = refl;
-      events = tasked .events;
-      inner = tasked .inner;
-      backs = tasked .backs;
-      reads = tasked .reads;
-      accepts = tasked .accepts;
-    }
-
--- What is seen of an even task:
-module _ {site : Site} {s : Segment} {task : Task} {read : Bool} {n : ℕ} {seen : Seen} {w : List ℕ}
-    (even : Even site s w task read n) (order : s .first ≤ s .end) (sight : Seeing site s w seen)
-    {q : Stretch} (tasked : Tasked task (s .first) w q) where
-  -- The stretch has the gaps of the segment, and n to pay behind a write-back at each.
-  ended : q .end ≡ s .end
-  ended = tasked .end ∙ even .end
-
-  even-back : (t : ℕ) → s .first ≤ t → t ≤ q .end → q .back t ≡ n
-  even-back t a b = tasked .backs t a (rw (tasked .end) at b) ∙ even .backs t a (rw ended at b)
+-- What is seen of the stretch of an even task:
+module _ {site : Site} {s : Segment} {read : Bool} {n : ℕ} {seen : Seen} {w : List ℕ} {q : Stretch}
+    (of : EvenOn site s w q read n) (order : s .first ≤ s .end) (sight : Seeing site s w seen) where
+  -- What is to pay by a write-back is not less than a number.
+  behind-each : (low : ℕ) → low ≤ suc n → (t : ℕ) → s .first ≤ t → t ≤ q .end → low ≤ suc (q .back t)
+  behind-each low behind t a b = rw (back-is of a (rw (end-is of) at b)) behind
 
   -- Below a number that is at most what is to pay by the events, and by a write-back, nothing finishes.
   none-below : (low : ℕ) → low ≤ q .last → low ≤ suc n → (l : ℕ) → l < low → ¬ Finishes q (s .first) (s .code) l
   none-below low last behind l h f =
-      absurd (omega (
-        arith,
-        nothing-below q (s .first) low last (λ t a b. rw (even-back t a b) behind) (le-refl _)
-            (rw ended order) f,
-      ))
+      let least = nothing-below q (s .first) low last (behind-each low behind) (le-refl _) (rw (end-is of) order) f in
+      absurd (omega arith)
 
   -- Nor within it, if it is not seen.
   none-within : (low : ℕ) → low ≤ q .last → low ≤ suc n
       → (cond read (seen .same) (seen .other) ≡ true → ¬ (q .last ≤ low)) → (seen .owned ≡ true → ¬ (n < low))
       → ¬ Finishes q (s .first) (s .code) low
   none-within low last behind late unwritten f =
-      let alone = lowest-unmoved q (s .first) low last (λ t a b. rw (even-back t a b) behind) (le-refl _)
-      (rw ended order) (le-refl low) f in
-      ⊎-elim (λ e. late (e .0) (e .1)) (λ e. unwritten (e .0) (e .1)) (sight .exact even tasked low .0 alone)
+      let alone =
+      lowest-unmoved q (s .first) low last (behind-each low behind) (le-refl _) (rw (end-is of) order) (le-refl low) f
+      in
+      ⊎-elim (λ e. late (e .0) (e .1)) (λ e. unwritten (e .0) (e .1))
+      (sight .exact (of .even) (of .tasked) low .0 alone)
 
 -- With a write-back on the way it finishes within as many steps as that takes.
-module _ {site : Site} {s : Segment} {task : Task} {read : Bool} {n : ℕ} {seen : Seen} {w : List ℕ}
-    (even : Even site s w task read n) (order : s .first ≤ s .end) (sight : Seeing site s w seen)
-    (named : 1 ≤ site .owner .0) (fits : s .code < 64) {q : Stretch} (tasked : Tasked task (s .first) w q) where
+module _ {site : Site} {s : Segment} {read : Bool} {n : ℕ} {seen : Seen} {w : List ℕ} {q : Stretch}
+    (of : EvenOn site s w q read n) (order : s .first ≤ s .end) (sight : Seeing site s w seen)
+    (named : 1 ≤ site .owner .0) (fits : s .code < 64) where
   -- The owner has a copy without a move.
   by-owner : seen .owned ≡ true → (l : ℕ) → l < FAR
       → Finishes (ending q FAR) (s .first) (s .code) l ↔ (plus n 1 ≤ l)
   by-owner owned l far =
-      let e = unended-even even in
-      let t = unended-tasked tasked in (
+      let on = unended-on of in
+      let seen-on = sight .exact (on .even) (on .tasked) l in (
         λ f. elim (decLe (plus n 1) l) [
           | yes b ↦ b
           | no b ↦
-              absurd (none-below e order sight t (plus n 1) (plus-far n 1) (omega (arith, plus-min n 1)) l
+              absurd (none-below on order sight (plus n 1) (plus-far n 1) (omega (arith, plus-min n 1)) l
               (omega arith) f)
         ],
-        λ b. unmoved-finishes (ending q FAR) (sight .exact e t l .1 (inr (owned, omega (arith, plus-min n 1)))),
+        λ b. unmoved-finishes (ending q FAR) (seen-on .1 (inr (owned, omega (arith, plus-min n 1)))),
       )
 
   -- It has none, but there is one.
   by-move : seen .owned ≡ false → s .code ≢ 0 → (l : ℕ) → l < FAR
       → Finishes (ending q FAR) (s .first) (s .code) l ↔ (plus n 2 ≤ l)
   by-move unowned some l far =
-      let e = unended-even even in
-      let t = unended-tasked tasked in
-      let owner : 1 ≤ q .site .owner = rw (tasked .owner, even .owner) named in
-      let here = even-back even order sight tasked (s .first) (le-refl _) (rw (ended even order sight tasked) order) in
-      let two = written (ending q FAR) (s .first) (s .code) n owner fits some here in (
+      let owner : 1 ≤ q .site .owner = rw (owner-is of) named in
+      let two = written (ending q FAR) (s .first) (s .code) n owner fits some (back-is of (le-refl _) order) in (
         λ f. elim (decLe (plus n 2) l) [
           | yes b ↦ b
           | no b ↦
-              absurd (none-within e order sight t l (omega arith) (omega (arith, plus-min n 2))
-              (λ all. λ h. absurd (omega arith)) (λ owned. absurd (true≢false (sym owned ∙ unowned))) f)
+              absurd (none-within (unended-on of) order sight l (omega arith) (omega (arith, plus-min n 2))
+              (λ all h. absurd (omega arith)) (λ owned. absurd (true≢false (sym owned ∙ unowned))) f)
         ],
         λ b. finishes-more (ending q FAR) two (omega (arith, plus-min n 2)),
       )
 
   -- One number says it.
-  by-writing : (l : ℕ) → l < FAR
-      → Finishes (ending q FAR) (s .first) (s .code) l ↔ (writtenOf s n seen ≤ l)
+  by-writing : (l : ℕ) → l < FAR → Finishes (ending q FAR) (s .first) (s .code) l ↔ (writtenOf s n seen ≤ l)
   by-writing l far = by-test (eqb (s .code) 0) none some
     where
-      of : EvenOn site s w q read n
-      of = record { task = task; even = even; tasked = tasked }
-
       none : T (eqb (s .code) 0) → Finishes (ending q FAR) (s .first) (s .code) l ↔ (writtenOf s n seen ≤ l)
       none z =
           let bare : eqb (s .code) 0 ≡ true = T→true z in
@@ -295,13 +283,16 @@ module _ {site : Site} {s : Segment} {task : Task} {n : ℕ} {seen : Seen} {w : 
   same-last : {q : Stretch} → Tasked task (s .first) w q → q .last ≡ n
   same-last tasked = tasked .last ∙ ok .last whole
 
+  same-on : {q : Stretch} → Tasked task (s .first) w q → EvenOn site s w q true n
+  same-on tasked = record { task = task; even = ok .even whole; tasked = tasked }
+
   -- A write-back is one way to finish.
   same-writes : {q : Stretch} → Tasked task (s .first) w q → writtenOf s n seen < FAR
       → Finishes q (s .first) (s .code) (writtenOf s n seen)
   same-writes {q} tasked far =
-      linear q (q .last) (s .first) (s .code) (writtenOf s n seen) far .1
-      (inl (by-writing (ok .even whole) same-order (ok .sight) same-named (ok .code) tasked (writtenOf s n seen) far .1
-      (le-refl _)))
+      let paid = writtenOf s n seen in
+      let back = by-writing (same-on tasked) same-order (ok .sight) same-named (ok .code) paid far in
+      linear q (q .last) (s .first) (s .code) paid far .1 (inl (back .1 (le-refl _)))
 
   unchanged : OnlyLevels (s .first) (task .end) w w
   unchanged = only-none (LEVELS + s .first) (LEVELS + (task .end + 1)) w
@@ -314,10 +305,9 @@ module _ {site : Site} {s : Segment} {task : Task} {n : ℕ} {seen : Seen} {w : 
         counted =
             λ q tasked.
             let last = same-last tasked in
-            let even = ok .even whole in
             counted-here q (s .first) (s .code) n (ok .small)
-            (λ far. unmoved-finishes q (ok .sight .exact even tasked n .1 (inl (all, omega arith))))
-            (none-below even same-order (ok .sight) tasked n (omega arith) (omega arith));
+            (λ far. unmoved-finishes q (ok .sight .exact (ok .even whole) tasked n .1 (inl (all, omega arith))))
+            (none-below (same-on tasked) same-order (ok .sight) n (omega arith) (omega arith));
       }
 
   -- or a write-back that takes one step,
@@ -331,7 +321,7 @@ module _ {site : Site} {s : Segment} {task : Task} {n : ℕ} {seen : Seen} {w : 
             let last = same-last tasked in
             counted-here q (s .first) (s .code) (writtenOf s n seen) (written-far s n seen) (same-writes tasked)
             (λ l h f.
-            absurd (none-within (ok .even whole) same-order (ok .sight) tasked n (omega arith) (omega arith)
+            absurd (none-within (same-on tasked) same-order (ok .sight) n (omega arith) (omega arith)
             (λ all. absurd (true≢false (sym all ∙ stuck))) (λ owned b. absurd (omega arith))
             (finishes-more q f (omega arith))));
       }
@@ -486,13 +476,14 @@ module _ {site : Site} {s : Segment} {task : Task} {n least : ℕ} {seen : Seen}
         let even = ok .even whole in
         let order = ok .keeping whole .order in
         let named : 1 ≤ site .owner .0 = rw (← even .owner) (ok .ready .owner .0) in
+        let on : EvenOn site s w q false n = record { task = task; even = even; tasked = tasked } in
         let paid = writtenOf s n seen in
         let counts = keeps .counts whole (ending (dry q) 0) (keeping-tasked tasked) in
         let last = tasked .last in
         let exact = two-ways (λ m x. Finishes (ending q m) (s .first) (s .code) x)
         (Finishes (ending q FAR) (s .first) (s .code)) (Finishes (ending (dry q) 0) (s .first) (s .code))
         (λ m x far. linear q m (s .first) (s .code) x far) paid FAR kept least (written-far s n seen)
-        (by-writing even order (ok .sight) named (ok .code) tasked) (counts .exact) (counts .far)
+        (by-writing on order (ok .sight) named (ok .code)) (counts .exact) (counts .far)
         (q .last) (rw last (ok .small .1)) (rw last (ok .spares whole)) in
         record {
           most = le-trans (omega (arith, lesser-min paid (plus kept (task .last)))) (written-far s n seen);

@@ -103,10 +103,10 @@ pub record EvenOn (at : site.Site) (s : Segment) (w : List ℕ) (q : Stretch) (r
 module _ {at : site.Site} {s : Segment} {w : List ℕ} {q : Stretch} {read : Bool} {n : ℕ}
     (of : EvenOn at s w q read n) where
   -- What the segment says of the stretch: its end, its owner, its events, its write-backs and its memory.
-  end-is : q .end ≡ s .end
+  pub end-is : q .end ≡ s .end
   end-is = of .tasked .end ∙ of .even .end
 
-  owner-is : q .site .owner ≡ at .owner .0
+  pub owner-is : q .site .owner ≡ at .owner .0
   owner-is = of .tasked .owner ∙ of .even .owner
 
   event-is : {t : ℕ} → s .first ≤ t → t < s .end → q .event t ≡ eventIn w t
@@ -115,7 +115,7 @@ module _ {at : site.Site} {s : Segment} {w : List ℕ} {q : Stretch} {read : Boo
   inner-is : {t : ℕ} → s .first ≤ t → t < s .end → Inner (q .copy) (eventIn w t)
   inner-is {t} from h = of .tasked .inner t from (rw (of .even .end) h)
 
-  back-is : {t : ℕ} → s .first ≤ t → t ≤ s .end → q .back t ≡ n
+  pub back-is : {t : ℕ} → s .first ≤ t → t ≤ s .end → q .back t ≡ n
   back-is {t} from h = of .tasked .backs t from (rw (of .even .end) h) ∙ of .even .backs t from h
 
   reads-is : {t : ℕ} → s .first ≤ t → t ≤ s .end → eqb (q .memory t) (q .copy) ≡ read

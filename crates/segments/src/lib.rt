@@ -5,6 +5,6 @@
 // Internal: only crates of this project call it, and they meet what it requires.
 pub mod backing;
 pub mod resting;
-pub mod seeing;
+mod seeing;
 pub mod weighing;
 pub mod words;

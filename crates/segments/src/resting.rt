@@ -10,14 +10,14 @@ ghost use Rattle.segments.specs.Costs.{lesser, plus, ending, restFrom, o
 ghost use Rattle.segments.specs.Weighing.{Restable};
 
 // The lesser of two numbers.
-pub fn least_of(a: u64, b: u64) -> u64
+pub(crate) fn least_of(a: u64, b: u64) -> u64
     ensures { λ r. ⌜ r ≡ lesser a b ⌝ }
 {
     if a <= b { a } else { b }
 }
 
 // Their sum, but no more than FAR.
-pub fn add(a: u64, b: u64) -> u64
+pub(crate) fn add(a: u64, b: u64) -> u64
     requires { ⌜ (a ≤ FAR) × (b ≤ FAR) ⌝ }
     ensures { λ r. ⌜ r ≡ plus a b ⌝ }
 {
@@ -32,7 +32,7 @@ fn after_all(b: Block, m: u32) -> u64
 }
 
 // What is to pay from segment l on, with a memory value that no event of the block reads.
-pub fn other(w: &[u64], b: Block, l: usize) -> u64
+pub(crate) fn other(w: &[u64], b: Block, l: usize) -> u64
     requires { ⌜ Restable (now w) b l ⌝ }
     ensures { λ r. ⌜ r ≡ otherFrom (now (w .entry)) b l ⌝ }
 {

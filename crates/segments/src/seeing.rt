@@ -44,7 +44,7 @@ fn closes(s: Segment, code: u8) -> bool
 
 // Follows the events from the first code on. All along memory has a value that is not that of the copies; what is
 // possible with it is possible with every value, and what is not is so with that of the copies only without a copy.
-pub fn see(w: &[u64], site: Site, s: Segment) -> Seen
+pub(crate) fn see(w: &[u64], site: Site, s: Segment) -> Seen
     requires { ⌜ Seeable site s (now w) ⌝ }
     ensures { λ r. ⌜ Seeing site s (now (w .entry)) r ⌝ }
 {

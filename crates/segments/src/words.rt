@@ -1,7 +1,7 @@
 // The words of the segments in the scratch area, as specs/Words.antt has them.
 use scratch::SEGMENTS;
 use scratch::U32;
-ghost use Prim.Native.Nat.{_+_, _≤_, _<_};
+ghost use Prim.Native.Nat.{_+_, _≤_};
 ghost use mathlib.Core.Path.{_≡_};
 ghost use lib.ListN.{length};
 ghost use Rattle.scratch.specs.Layout.{WORDS, MOST};
@@ -64,7 +64,7 @@ pub fn put_segment(w: &mut [u64], l: usize, s: Segment)
 }
 
 // The value of the copies of segment l.
-pub fn get_value(w: &[u64], l: usize) -> u32
+pub(crate) fn get_value(w: &[u64], l: usize) -> u32
     requires { ⌜ (WORDS ≤ length (now w)) × (l ≤ MOST) ⌝ }
     ensures { λ r. ⌜ r ≡ segmentIn (now (w .entry)) l .copy ⌝ }
 {
@@ -86,7 +86,7 @@ pub fn get_costs(w: &[u64], l: usize) -> Costs
 }
 
 // Makes c the costs of segment l.
-pub fn put_costs(w: &mut [u64], l: usize, c: Costs)
+pub(crate) fn put_costs(w: &mut [u64], l: usize, c: Costs)
     requires { ⌜ (WORDS ≤ length (now w)) × (l ≤ MOST) × CostsFit c ⌝ }
     ensures { λ _. ⌜ CostsPut (now (w .entry)) l c (now (w .exit)) ⌝ }
 {

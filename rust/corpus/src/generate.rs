@@ -362,21 +362,26 @@ pub fn litmus(random: &mut Random) -> Log {
     log
 }
 
-/// A log like a litmus test for set crashes: after a short run a value is stored and loaded, most often only by machines
-/// that then crash together with the owner, in one step or now and then in a row; and then a load of it, of the initial
-/// value or of 0. What could move between crashes in a row decides.
-pub fn power_loss(random: &mut Random) -> Log {
-    let shape = Shape {
-        machines: random.between(2, 4),
+/// The short run before a litmus test with crashes: of `least` to 4 machines, with fewer than `events` events.
+fn crashy_shape(random: &mut Random, least: usize, events: usize) -> Shape {
+    Shape {
+        machines: random.between(least, 4),
         locations: random.between(1, 2),
-        events: random.below(5),
+        events: random.below(events),
         crashes: 25,
         set_crashes: 50,
         patterns: *random.pick(&[0, 60]),
         kinds: *random.pick(&[0, 40]),
         values: 3,
         operations: some_operations(random, 20),
-    };
+    }
+}
+
+/// A log like a litmus test for set crashes: after a short run a value is stored and loaded, most often only by machines
+/// that then crash together with the owner, in one step or now and then in a row; and then a load of it, of the initial
+/// value or of 0. What could move between crashes in a row decides.
+pub fn power_loss(random: &mut Random) -> Log {
+    let shape = crashy_shape(random, 2, 5);
     let mut log = plausible(random, &shape);
     let location = random.below(shape.locations) as u8;
     let value = shape.values as u32;
@@ -408,17 +413,7 @@ pub fn power_loss(random: &mut Random) -> Log {
 /// several machines, and most often the owner crashes, so that nothing can have moved before; then caches are flushed
 /// or emptied by crashes; and then a load of the value, of the initial one or of 0.
 pub fn shared(random: &mut Random) -> Log {
-    let shape = Shape {
-        machines: random.between(3, 4),
-        locations: random.between(1, 2),
-        events: random.below(4),
-        crashes: 25,
-        set_crashes: 50,
-        patterns: *random.pick(&[0, 60]),
-        kinds: *random.pick(&[0, 40]),
-        values: 3,
-        operations: some_operations(random, 20),
-    };
+    let shape = crashy_shape(random, 3, 4);
     let mut log = plausible(random, &shape);
     let location = random.below(shape.locations) as u8;
     let value = shape.values as u32;
