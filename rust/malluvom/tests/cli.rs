@@ -1,106 +1,13 @@
 //! The command line tool as its users call it.
 
+mod common;
+
 use std::fs;
-use std::path::{Path, PathBuf};
-use std::process::{Command, Output};
+use std::path::Path;
+use std::process::Command;
 
+use common::{examples, folder, print, status, tool, Pair};
 use corpus::{damage, encode, plausible, random_log, widened, Random, Shape};
-
-fn tool(words: &[&str]) -> Output {
-    Command::new(env!("CARGO_BIN_EXE_malluvom")).args(words).output().unwrap()
-}
-
-fn status(output: &Output) -> i32 {
-    let errors = String::from_utf8_lossy(&output.stderr);
-    assert!(!errors.contains("panicked"), "{errors}");
-    output.status.code().expect("ended by a signal")
-}
-
-/// A folder of its own for each test.
-fn folder(name: &str) -> PathBuf {
-    let folder = Path::new(env!("CARGO_TARGET_TMPDIR")).join(name);
-    let _ = fs::remove_dir_all(&folder);
-    fs::create_dir_all(&folder).unwrap();
-    folder
-}
-
-/// What a command prints.
-fn print(words: &[&str]) -> String {
-    String::from_utf8(tool(words).stdout).unwrap()
-}
-
-/// A text and its log, in a folder of their own.
-struct Pair {
-    text: String,
-    log: String,
-}
-
-impl Pair {
-    fn new(name: &str) -> Pair {
-        let folder = folder(name);
-        let [text, log] = ["a.txt", "a.log"].map(|name| folder.join(name).to_str().unwrap().to_string());
-        Pair { text, log }
-    }
-
-    /// The bytes of the text, which are the log from now on.
-    fn assemble(&self, text: &str) -> Vec<u8> {
-        fs::write(&self.text, format!("{text}\n")).unwrap();
-        assert_eq!(status(&tool(&["asm", &self.text, "-o", &self.log])), 0, "{text}");
-        fs::read(&self.log).unwrap()
-    }
-
-    /// The bytes of some lines, whatever they make.
-    fn fields(&self, lines: &str) -> Vec<u8> {
-        self.assemble(&format!("unchecked\n{lines}"))
-    }
-
-    /// The log as text, which gives its bytes again.
-    fn show(&self) -> String {
-        let shown = print(&["show", &self.log]);
-        assert_eq!(fs::read(&self.log).unwrap(), self.assemble(&shown), "{shown}");
-        shown
-    }
-
-    fn explain(&self) -> String {
-        print(&["explain", &self.log])
-    }
-
-    /// The explanation of an impossible log, which can be drawn too.
-    fn why(&self) -> String {
-        let output = tool(&["explain", &self.log]);
-        assert_eq!((status(&output), status(&tool(&["draw", &self.log]))), (1, 0));
-        String::from_utf8(output.stdout).unwrap()
-    }
-
-    fn draw(&self, location: &str) -> String {
-        print(&["draw", &self.log, "--location", location])
-    }
-
-    /// Of the picture of a location: its title, and the values of the memory one after the other.
-    fn memory(&self, location: &str) -> (String, String) {
-        let svg = self.draw(location);
-        let words = |line: &str| line.rsplit_once("</text>").unwrap().0.rsplit_once('>').unwrap().1.to_string();
-        let title = svg.lines().find(|line| line.contains("class=\"title\"")).unwrap();
-        let bars = svg.lines().filter(|line| line.starts_with("<rect class=\"memory\""));
-        (words(title), bars.map(words).collect::<Vec<_>>().join(" "))
-    }
-
-    fn is_allowed(&self) -> bool {
-        status(&tool(&["judge", &self.log])) == 0
-    }
-}
-
-fn examples(extension: &str) -> Vec<PathBuf> {
-    let root = Path::new(env!("CARGO_MANIFEST_DIR")).join("../../examples");
-    let mut found = Vec::new();
-    for entry in fs::read_dir(root).unwrap().map(Result::unwrap).filter(|entry| entry.path().is_dir()) {
-        found.extend(fs::read_dir(entry.path()).unwrap().map(|file| file.unwrap().path()));
-    }
-    found.retain(|path| path.extension().is_some_and(|found| found == extension));
-    found.sort();
-    assert!(found.len() >= 14);
-    found
-}
 
 #[test]
 fn examples_assemble_to_their_bytes_and_back() {

@@ -1,6 +1,5 @@
 //! Text to log bytes. docs/TEXT-FORM.md describes the text.
 
-use std::ffi::OsString;
 use std::path::Path;
 
 use malluvom::{Edition, Home, Kind, Recorder, Refusal, Schedule, Step};
@@ -10,8 +9,7 @@ use crate::files;
 use crate::options::Options;
 use crate::text::{parse, Line};
 
-pub fn command(words: &[OsString]) -> Result<u8, Failure> {
-    let options = Options::parse(words, &[], &["-o", "--schedule"])?;
+pub fn command(options: &Options) -> Result<u8, Failure> {
     let path = options.one_file("the text")?;
     let text = files::read_text(path)?;
     let assembled = assemble(&text, path)?;

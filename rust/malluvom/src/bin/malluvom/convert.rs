@@ -1,15 +1,12 @@
 //! A log in the other edition.
 
-use std::ffi::OsString;
-
 use malluvom::convert;
 
 use crate::failure::Failure;
 use crate::files;
 use crate::options::Options;
 
-pub fn command(words: &[OsString]) -> Result<u8, Failure> {
-    let options = Options::parse(words, &[], &["-o"])?;
+pub fn command(options: &Options) -> Result<u8, Failure> {
     let path = options.one_file("the log")?;
     let log = files::read_bytes(path)?;
     let converted = convert(&log).map_err(|refusal| files::refused(path, &log, refusal))?;

@@ -1,7 +1,6 @@
 //! A picture of one location's run: a lane for each machine's cache and one for the memory, events and silent steps
 //! from left to right, and a bar wherever a value is held.
 
-use std::ffi::OsString;
 use std::fmt::Write;
 
 use malluvom::{Event, Judge, Log, Operation, Schedule, Verdict};
@@ -23,8 +22,7 @@ text{font:13px sans-serif;fill:#222}.title{font-weight:bold}.small{font-size:11p
 .event{fill:#fff;stroke:#222}.silent{stroke:#888;stroke-width:2;stroke-dasharray:4 3;fill:none}\
 .crash,.bad{stroke:#c22;stroke-width:3;fill:none}.badtext{fill:#c22}";
 
-pub fn command(words: &[OsString]) -> Result<u8, Failure> {
-    let options = Options::parse(words, &[], &["-o", "--location"])?;
+pub fn command(options: &Options) -> Result<u8, Failure> {
     let path = options.one_file("the log")?;
     let (log, bytes) = files::read_log(path)?;
     let (log, schedule, bad) = explained(log, &bytes)?;

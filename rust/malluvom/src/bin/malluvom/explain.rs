@@ -1,7 +1,6 @@
 //! Why a log is allowed, or why nothing explains an event of it.
 
 use std::collections::BTreeSet;
-use std::ffi::OsString;
 use std::fmt::Write;
 
 use malluvom::{Event, Judge, Kind, Log, Operation, Schedule, Verdict};
@@ -12,8 +11,7 @@ use crate::options::Options;
 use crate::run::{actions, caches, place, Action, Held};
 use crate::show::silent;
 
-pub fn command(words: &[OsString]) -> Result<u8, Failure> {
-    let options = Options::parse(words, &[], &["-o"])?;
+pub fn command(options: &Options) -> Result<u8, Failure> {
     let path = options.one_file("the log")?;
     let (log, bytes) = files::read_log(path)?;
     let mut judge = Judge::new();

@@ -1,6 +1,5 @@
 //! The verdicts of many files, one line each.
 
-use std::ffi::OsString;
 use std::fmt::Write as _;
 use std::io::Write as _;
 use std::path::{Path, PathBuf};
@@ -12,8 +11,7 @@ use crate::files;
 use crate::options::Options;
 use crate::progress::Progress;
 
-pub fn command(words: &[OsString]) -> Result<u8, Failure> {
-    let options = Options::parse(words, &["--json", "--write"], &[])?;
+pub fn command(options: &Options) -> Result<u8, Failure> {
     if options.files.is_empty() {
         return Err(Failure::usage("which files are to be judged?"));
     }

@@ -1,11 +1,13 @@
 //! The command line tool. Every verdict, refusal and replay comes from the proved library.
 
 mod asm;
+mod commands;
 mod convert;
 mod draw;
 mod explain;
 mod failure;
 mod files;
+mod help;
 mod judge;
 mod options;
 mod progress;
@@ -14,33 +16,11 @@ mod run;
 mod show;
 mod text;
 
+use std::ffi::OsString;
 use std::process::ExitCode;
 
 use failure::Failure;
-
-const HELP: &str = "\
-malluvom: a proved judge of CXL0 logs
-
-  malluvom asm TEXT [-o LOG] [--schedule VERDICT]
-        the log's bytes of a text; --schedule also writes its silent steps as a verdict file
-  malluvom show LOG [VERDICT]
-        a log as text, one event per line, with the silent steps of a verdict file
-  malluvom convert LOG [-o LOG]
-        the same log in the other edition: values of 4 bytes in place of 2, or of 2 in place of 4
-  malluvom judge [--json] [--write] PATH...
-        one line for each file, and for each .log file of each folder: allowed and the number of silent steps,
-        impossible and the event, or number and the refusal; --write puts a verdict file beside each log
-  malluvom replay LOG VERDICT
-        yes, or no and the number of events that pass before the first thing not possible
-  malluvom explain LOG
-        an allowed log's shortest run step by step, or why nothing explains an impossible event
-  malluvom draw LOG [--location L0] [-o SVG]
-        a picture of one location's part of that run
-
-A file named - is standard input; what is written goes to standard output unless -o names a file. Exit status: 0;
-1 if a log is impossible or refused, or replay says no; 2 if something could not be done. The text form is described in
-docs/TEXT-FORM.md.
-";
+use options::Options;
 
 fn main() -> ExitCode {
     let words: Vec<_> = std::env::args_os().skip(1).collect();
@@ -54,19 +34,24 @@ fn main() -> ExitCode {
 }
 
 /// Runs one command and gives the exit status.
-fn run(words: &[std::ffi::OsString]) -> Result<u8, Failure> {
-    let Some((command, rest)) = words.split_first() else {
-        return files::print(HELP).map(|()| 0);
+fn run(words: &[OsString]) -> Result<u8, Failure> {
+    let (first, rest) = match words.split_first() {
+        Some((first, rest)) => (first.to_string_lossy(), rest),
+        None => ("help".into(), words),
     };
-    match command.to_string_lossy().as_ref() {
-        "asm" => asm::command(rest),
-        "show" => show::command(rest),
-        "convert" => convert::command(rest),
-        "judge" => judge::command(rest),
-        "replay" => replay::command(rest),
-        "explain" => explain::command(rest),
-        "draw" => draw::command(rest),
-        "help" | "--help" | "-h" => files::print(HELP).map(|()| 0),
-        other => Err(Failure::usage(format!("there is no command '{other}'"))),
-    }
+    let said = match first.as_ref() {
+        "help" | "--help" | "-h" => help::all(),
+        "man" => help::man(),
+        "--version" | "-V" => help::version(),
+        name => {
+            let known = commands::named(name);
+            let command = known.ok_or_else(|| Failure::usage(format!("there is no command '{name}'")))?;
+            let options = Options::parse(rest, command)?;
+            if !options.help {
+                return (command.run)(&options);
+            }
+            help::one(command)
+        }
+    };
+    files::print(&said).map(|()| 0)
 }

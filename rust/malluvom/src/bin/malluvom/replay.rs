@@ -1,15 +1,12 @@
 //! Replay of a log with a verdict file.
 
-use std::ffi::OsString;
-
 use malluvom::{replay, Refusal, Replayed};
 
 use crate::failure::Failure;
 use crate::files;
 use crate::options::Options;
 
-pub fn command(words: &[OsString]) -> Result<u8, Failure> {
-    let options = Options::parse(words, &[], &[])?;
+pub fn command(options: &Options) -> Result<u8, Failure> {
     let [log_path, file_path] = &options.files[..] else {
         return Err(Failure::usage("give a log and a verdict file"));
     };

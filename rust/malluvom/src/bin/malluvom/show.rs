@@ -1,6 +1,5 @@
 //! Log bytes to text, with the silent steps of a verdict file woven in.
 
-use std::ffi::OsString;
 use std::fmt::Write;
 use std::path::Path;
 
@@ -10,8 +9,7 @@ use crate::failure::Failure;
 use crate::files;
 use crate::options::Options;
 
-pub fn command(words: &[OsString]) -> Result<u8, Failure> {
-    let options = Options::parse(words, &[], &["-o"])?;
+pub fn command(options: &Options) -> Result<u8, Failure> {
     let (path, verdict) = match &options.files[..] {
         [log] => (log, None),
         [log, verdict] => (log, Some(verdict)),
