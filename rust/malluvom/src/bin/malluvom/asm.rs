@@ -6,17 +6,22 @@ use malluvom::{Edition, Home, Kind, Recorder, Refusal, Schedule, Step};
 
 use crate::failure::Failure;
 use crate::files;
+use crate::names::shown;
 use crate::options::Options;
+use crate::output;
 use crate::text::{parse, Line};
 
 pub fn command(options: &Options) -> Result<u8, Failure> {
     let path = options.one_file("the text")?;
     let text = files::read_text(path)?;
     let assembled = assemble(&text, path)?;
-    if let Some(schedule) = options.value("--schedule") {
-        files::write(Some(schedule), &assembled.schedule.to_file())?;
+    let schedule = options.value("--schedule");
+    let outputs: Vec<&Path> = [options.value("-o"), schedule].into_iter().flatten().map(Path::new).collect();
+    output::check(&outputs, &options.files)?;
+    if let Some(schedule) = schedule {
+        output::write_file(schedule, &assembled.schedule.to_file(), options.has("--sync"))?;
     }
-    files::write(options.value("-o"), &assembled.log)?;
+    output::write(options, &assembled.log)?;
     Ok(0)
 }
 
@@ -63,12 +68,12 @@ pub fn assemble(text: &str, path: &Path) -> Result<Assembled, Failure> {
     let mut lines = 1;
     for (number, line) in text.lines().enumerate() {
         lines = number + 1;
-        let placed = |message: String| Failure::new(format!("{}:{}: {message}", path.display(), number + 1));
+        let placed = |message: String| Failure::new(format!("{}:{}: {message}", shown(path), number + 1));
         if let Some(line) = parse(line, assembly.edition()).map_err(placed)? {
             assembly.take(line).map_err(placed)?;
         }
     }
-    assembly.finish().map_err(|message| Failure::new(format!("{}:{lines}: {message}", path.display())))
+    assembly.finish().map_err(|message| Failure::new(format!("{}:{lines}: {message}", shown(path))))
 }
 
 struct Assembly {

@@ -32,6 +32,10 @@ const fn valued(name: &'static str, value: &'static str, does: &'static str) -> 
     Opt { name, value: Some(value), does }
 }
 
+const SYNC: Opt = flag("--sync", "flush what is written to the disk, file and folder, for a power cut");
+
+const ALLOW_EMPTY: Opt = flag("--allow-empty", "a folder without a log is no failure");
+
 pub const ALL: &[Command] = &[
     Command {
         name: "asm",
@@ -40,6 +44,7 @@ pub const ALL: &[Command] = &[
         options: &[
             valued("-o", "LOG", "write the log to this file"),
             valued("--schedule", "VERDICT", "also write the silent steps of the text as a verdict file"),
+            SYNC,
         ],
         run: asm::command,
     },
@@ -47,36 +52,47 @@ pub const ALL: &[Command] = &[
         name: "show",
         files: "LOG [VERDICT]",
         does: "A log as text, one event per line, with the silent steps of a verdict file.",
-        options: &[valued("-o", "TEXT", "write the text to this file")],
+        options: &[valued("-o", "TEXT", "write the text to this file"), SYNC],
         run: show::command,
     },
     Command {
         name: "convert",
         files: "LOG",
         does: "The same log in the other edition: values of 4 bytes in place of 2, or of 2 in place of 4.",
-        options: &[valued("-o", "LOG", "write the log to this file")],
+        options: &[valued("-o", "LOG", "write the log to this file"), SYNC],
         run: convert::command,
     },
     Command {
         name: "judge",
         files: "PATH...",
-        does: "One line for each file, and for each .log file of each folder: allowed and the number of silent steps, \
-               impossible and the event, or number and the refusal.",
-        options: &[flag("--write", "put a verdict file beside each log"), flag("--json", "print each line as JSON")],
+        does: "One line for each file, and for each .log file of each folder and of the folders in it: allowed and the \
+               number of silent steps, impossible and the first impossible event, or number and the refusal.",
+        options: &[
+            flag(
+                "--write",
+                "put a verdict file beside each log, with the extension .verdict; where a log has no verdict, an older \
+                 file is taken away",
+            ),
+            SYNC,
+            flag("--json", "print a line of JSON for each path, also for those that cannot be read"),
+            valued("--junit", "FILE", "also write the verdicts as a JUnit report"),
+            ALLOW_EMPTY,
+        ],
         run: judge::command,
     },
     Command {
         name: "replay",
-        files: "LOG VERDICT",
-        does: "Yes, or no and the number of events that pass before the first thing not possible.",
-        options: &[],
+        files: "LOG VERDICT | PATH...",
+        does: "Yes, or no and the number of events that pass before the first thing not possible. Of folders, each .log \
+               file with the verdict file beside it, a line each.",
+        options: &[ALLOW_EMPTY],
         run: replay::command,
     },
     Command {
         name: "explain",
         files: "LOG",
         does: "An allowed log's shortest run step by step, or why nothing explains an impossible event.",
-        options: &[valued("-o", "TEXT", "write the text to this file")],
+        options: &[valued("-o", "TEXT", "write the text to this file"), SYNC],
         run: explain::command,
     },
     Command {
@@ -86,6 +102,7 @@ pub const ALL: &[Command] = &[
         options: &[
             valued("--location", "L0", "draw this location"),
             valued("-o", "SVG", "write the picture to this file"),
+            SYNC,
         ],
         run: draw::command,
     },

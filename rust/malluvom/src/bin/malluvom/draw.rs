@@ -8,6 +8,7 @@ use malluvom::{Event, Judge, Log, Operation, Schedule, Verdict};
 use crate::failure::Failure;
 use crate::files;
 use crate::options::Options;
+use crate::output;
 use crate::run::{actions, place, Action, Held};
 
 const LEFT: usize = 150;
@@ -31,7 +32,7 @@ pub fn command(options: &Options) -> Result<u8, Failure> {
         None => chosen(&log, bad)?,
     };
     let svg = Picture::new(&log, location, bad.filter(|event| event.concerns(location))).draw(&schedule);
-    files::write(options.value("-o"), svg.as_bytes())?;
+    output::write(options, svg.as_bytes())?;
     Ok(0)
 }
 

@@ -8,6 +8,7 @@ use malluvom::{Event, Judge, Kind, Log, Operation, Schedule, Verdict};
 use crate::failure::Failure;
 use crate::files;
 use crate::options::Options;
+use crate::output;
 use crate::run::{actions, caches, place, Action, Held};
 use crate::show::silent;
 
@@ -19,7 +20,7 @@ pub fn command(options: &Options) -> Result<u8, Failure> {
         Verdict::Allowed(schedule) => (allowed(&log, &schedule), 0),
         Verdict::Impossible { event } => (impossible(&log, usize::from(event), &mut judge)?, 1),
     };
-    files::write(options.value("-o"), text.as_bytes())?;
+    output::write(options, text.as_bytes())?;
     Ok(status)
 }
 

@@ -1,13 +1,13 @@
-//! Reading and writing, with errors that name the file.
+//! Reading, with errors that name the file.
 
-use std::ffi::OsStr;
-use std::fs::File;
-use std::io::{self, Read, Write};
+use std::fs::{self, File};
+use std::io::{self, Read};
 use std::path::Path;
 
 use malluvom::{convert, log, read, Log, Refusal};
 
 use crate::failure::Failure;
+use crate::names::shown;
 
 /// No answer of the library depends on more bytes of a log or of a verdict file: 2,088 and 1,544 are the most that are
 /// accepted, and what stands after them only makes the refusal sure.
@@ -16,29 +16,49 @@ const BYTES_MOST: u64 = 65_536;
 /// No text of a log is longer, unless it is filled with comments.
 const TEXT_MOST: u64 = 1 << 20;
 
-fn read_most(path: &Path, most: u64) -> Result<Vec<u8>, Failure> {
-    let failed = |error: io::Error| Failure::new(format!("{}: {error}", path.display()));
-    let mut bytes = Vec::new();
+/// A file that can be read to its end: standard input, a regular file, or what is under /dev, where the shell puts pipes. To
+/// open a pipe that has a name would wait for whoever writes to it.
+fn open(path: &Path) -> io::Result<Box<dyn Read>> {
     if path == Path::new("-") {
-        io::stdin().lock().take(most).read_to_end(&mut bytes).map_err(failed)?;
-    } else {
-        File::open(path).map_err(failed)?.take(most).read_to_end(&mut bytes).map_err(failed)?;
+        return Ok(Box::new(io::stdin().lock()));
     }
+    let found = fs::metadata(path)?;
+    if found.is_dir() {
+        return Err(io::Error::other("is a folder"));
+    }
+    if !found.is_file() && !path.starts_with("/dev") {
+        return Err(io::Error::other("is no regular file"));
+    }
+    Ok(Box::new(File::open(path)?))
+}
+
+fn read_most(path: &Path, most: u64) -> io::Result<Vec<u8>> {
+    let mut bytes = Vec::new();
+    open(path)?.take(most).read_to_end(&mut bytes)?;
     Ok(bytes)
 }
 
 /// The bytes of a log or of a verdict file, or as many as matter.
-pub fn read_bytes(path: &Path) -> Result<Vec<u8>, Failure> {
+pub fn bytes_of(path: &Path) -> io::Result<Vec<u8>> {
     read_most(path, BYTES_MOST)
+}
+
+/// The same, with a failure that names the file.
+pub fn read_bytes(path: &Path) -> Result<Vec<u8>, Failure> {
+    bytes_of(path).map_err(|error| failed(path, error))
 }
 
 /// A text.
 pub fn read_text(path: &Path) -> Result<String, Failure> {
-    let bytes = read_most(path, TEXT_MOST + 1)?;
+    let bytes = read_most(path, TEXT_MOST + 1).map_err(|error| failed(path, error))?;
     if bytes.len() as u64 > TEXT_MOST {
-        return Err(Failure::new(format!("{}: over {TEXT_MOST} bytes of text", path.display())));
+        return Err(Failure::new(format!("{}: over {TEXT_MOST} bytes of text", shown(path))));
     }
-    String::from_utf8(bytes).map_err(|_| Failure::new(format!("{}: no text in UTF-8", path.display())))
+    String::from_utf8(bytes).map_err(|_| Failure::new(format!("{}: no text in UTF-8", shown(path))))
+}
+
+fn failed(path: &Path, error: io::Error) -> Failure {
+    Failure::new(format!("{}: {error}", shown(path)))
 }
 
 /// A log that the library accepts, with its bytes.
@@ -52,50 +72,45 @@ pub fn read_log(path: &Path) -> Result<(Log, Vec<u8>), Failure> {
 
 /// A refused log, with the field that is refused.
 pub fn refused(path: &Path, bytes: &[u8], refusal: Refusal) -> Failure {
-    let (number, at) = refused_field(bytes, refusal);
-    Failure::new(format!("{}: field {number}, at byte {at}: {refusal}", path.display()))
+    let Place { field, byte } = refused_at(bytes, refusal);
+    Failure::refused(format!("{}: field {field}, at byte {byte}: {refusal}", shown(path)))
 }
 
-/// The field that a refused log is refused for, counted from 1, and its position. Bytes that stop after a whole field
-/// are refused with 2 for the end that they lack, so the first field whose end brings another answer is the one. That a
-/// value is too large is said of accepted logs alone, so there an end is put after each field.
-fn refused_field(bytes: &[u8], refusal: Refusal) -> (usize, usize) {
+/// A refused verdict file.
+pub fn refused_verdict(path: &Path, refusal: Refusal) -> Failure {
+    Failure::refused(format!("{}: {refusal}", shown(path)))
+}
+
+/// The event that a verdict file calls impossible, if it does.
+pub fn impossible_event(file: &[u8]) -> Option<u8> {
+    match *file {
+        [0x10, 2, 0, 0, event, 0x04, 0, 0] => Some(event),
+        _ => None,
+    }
+}
+
+/// Where a log is refused: the field, counted from 1, and the position of its first byte.
+pub struct Place {
+    pub field: usize,
+    pub byte: usize,
+}
+
+/// The field that a refused log is refused for. Bytes that stop after a whole field are refused with 2 for the end that
+/// they lack, so the first field whose end brings another answer is the one. That a value is too large is said of accepted
+/// logs alone, so there an end is put after each field.
+pub fn refused_at(bytes: &[u8], refusal: Refusal) -> Place {
     let passes = |fields: &[u8]| match refusal {
         Refusal::ValueTooLarge => convert(&[fields, &[0x04, 0, 0]].concat()).is_ok(),
         _ => matches!(read(fields), Err(Refusal::Truncated) | Ok(_)),
     };
-    let mut next = (1, 0);
+    let mut next = Place { field: 1, byte: 0 };
     for (count, (at, _, payload)) in log::fields(bytes).enumerate() {
         let end = at + 3 + payload.len();
-        next = (count + 1, at);
+        next = Place { field: count + 1, byte: at };
         if !passes(&bytes[..end]) {
             break;
         }
-        next = (count + 2, end);
+        next = Place { field: count + 2, byte: end };
     }
     next
-}
-
-/// Writes to the named file, or to standard output.
-pub fn write(path: Option<&OsStr>, bytes: &[u8]) -> Result<(), Failure> {
-    match path {
-        Some(path) => {
-            std::fs::write(path, bytes).map_err(|error| Failure::new(format!("{}: {error}", path.to_string_lossy())))
-        }
-        None => write_out(bytes),
-    }
-}
-
-/// Prints to standard output.
-pub fn print(text: &str) -> Result<(), Failure> {
-    write_out(text.as_bytes())
-}
-
-fn write_out(bytes: &[u8]) -> Result<(), Failure> {
-    let mut out = io::stdout().lock();
-    match out.write_all(bytes).and_then(|()| out.flush()) {
-        // A reader that has seen enough is no failure.
-        Err(error) if error.kind() == io::ErrorKind::BrokenPipe => Ok(()),
-        done => done.map_err(|error| Failure::new(format!("standard output: {error}"))),
-    }
 }

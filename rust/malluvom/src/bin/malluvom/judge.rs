@@ -1,186 +1,159 @@
 //! The verdicts of many files, one line each.
 
-use std::fmt::Write as _;
-use std::io::Write as _;
+use std::collections::{HashMap, HashSet};
+use std::io;
 use std::path::{Path, PathBuf};
 
-use malluvom::{Judge, Judged, Refusal, Schedule};
+use malluvom::{Judge, Judged, Schedule};
 
 use crate::failure::Failure;
 use crate::files;
+use crate::folders::{self, Found};
+use crate::names::shown;
 use crate::options::Options;
+use crate::output::{self, Places, Writer};
 use crate::progress::Progress;
+use crate::report::{Outcome, Report, Verdict};
 
 pub fn command(options: &Options) -> Result<u8, Failure> {
     if options.files.is_empty() {
         return Err(Failure::usage("which files are to be judged?"));
     }
-    let mut paths = Vec::new();
-    let mut count = Count::default();
-    for path in &options.files {
-        match collect(path, &mut paths) {
-            Ok(()) => {}
-            Err(failure) => count.failed(&failure),
-        }
-    }
-    let mut judge = Judge::new();
+    let found = folders::logs(&options.files, options.has("--allow-empty"));
+    let junit = options.value("--junit");
+    let writes = options.has("--write");
+    check_outputs(&found, writes, junit.map(Path::new))?;
+    let mut bench = Bench { judge: Judge::new(), writer: writes.then(|| Writer::new(options.has("--sync"))) };
+    let mut report = Report::new(options.has("--json"), junit.is_some());
     let mut progress = Progress::new();
-    for (done, path) in paths.iter().enumerate() {
-        match one(&mut judge, path, options.has("--write"), &mut count) {
-            Ok(answer) if options.has("--json") => files::print(&answer.json(path))?,
-            Ok(answer) => files::print(&answer.line(path))?,
-            Err(failure) => {
-                progress.clear();
-                count.failed(&failure);
-            }
+    for (done, one) in found.iter().enumerate() {
+        let outcome = bench.judge(one);
+        if outcome.error.is_some() {
+            progress.clear();
         }
-        progress.at(done + 1, paths.len());
+        report.tell(&one.path, &outcome);
+        progress.at(done + 1, found.len());
     }
     progress.clear();
-    if paths.len() != 1 {
-        let _ = writeln!(std::io::stderr(), "{}", count.summary());
+    report.summary(writes);
+    if let (Some(path), Some(junit)) = (junit, &report.junit) {
+        output::write_file(path, junit.text().as_bytes(), options.has("--sync"))?;
     }
-    Ok(count.status())
+    Ok(report.status())
 }
 
-#[derive(Default)]
-struct Count {
-    allowed: usize,
-    impossible: usize,
-    refused: usize,
-    failed: usize,
+/// Judges logs and keeps their verdict files.
+struct Bench {
+    judge: Judge,
+    /// Writes the verdict files, if they are wanted.
+    writer: Option<Writer>,
 }
 
-impl Count {
-    fn failed(&mut self, failure: &Failure) {
-        failure.report();
-        self.failed += 1;
+impl Bench {
+    fn judge(&mut self, found: &Found) -> Outcome {
+        let read = match &found.failed {
+            Some(error) => Err(io::Error::other(error.clone())),
+            None => files::bytes_of(&found.path),
+        };
+        let log = match read {
+            Ok(log) => log,
+            Err(error) => return self.unread(&found.path, error),
+        };
+        match self.judge.file(&log) {
+            Ok((judged, file)) => {
+                let verdict = match judged {
+                    Judged::Allowed { .. } => Verdict::Allowed(Schedule::of_file(file)),
+                    Judged::Impossible { event, .. } => Verdict::Impossible(event),
+                };
+                let kept = self.writer.as_mut().map_or(Ok(()), |writer| keep(writer, &found.path, file));
+                Outcome { verdict: Some(verdict), error: kept.err() }
+            }
+            Err(refusal) => {
+                let verdict = Verdict::Refused(refusal, files::refused_at(&log, refusal));
+                Outcome { verdict: Some(verdict), error: self.drop_verdict(&found.path).err() }
+            }
+        }
     }
 
-    fn summary(&self) -> String {
-        let Count { allowed, impossible, refused, failed } = self;
-        format!("{allowed} allowed, {impossible} impossible, {refused} refused, {failed} could not be read")
+    /// A log that could not be read. If it is there, nobody knows whether a verdict file beside it is its own.
+    fn unread(&mut self, path: &Path, error: io::Error) -> Outcome {
+        let mut words = error.to_string();
+        if error.kind() != io::ErrorKind::NotFound && !path.is_dir() {
+            if let Err(error) = self.drop_verdict(path) {
+                words = format!("{words}; {error}");
+            }
+        }
+        Outcome { verdict: None, error: Some(words) }
     }
 
-    fn status(&self) -> u8 {
-        match (self.failed, self.impossible + self.refused) {
-            (0, 0) => 0,
-            (0, _) => 1,
-            _ => 2,
+    /// Takes away the verdict file beside a log that has no verdict.
+    fn drop_verdict(&mut self, log: &Path) -> Result<(), String> {
+        match &mut self.writer {
+            Some(writer) => drop_file(writer, &verdict_path(log)),
+            None => Ok(()),
         }
     }
 }
 
-enum Answer {
-    Allowed(Schedule),
-    Impossible(u8),
-    Refused(Refusal),
-}
-
-impl Answer {
-    fn line(&self, path: &Path) -> String {
-        let path = path.display();
-        match self {
-            Answer::Allowed(schedule) => format!("{path}: allowed {}\n", schedule.steps.len()),
-            Answer::Impossible(event) => format!("{path}: impossible {event}\n"),
-            Answer::Refused(refusal) => format!("{path}: number {} {refusal:?}\n", refusal.number()),
-        }
-    }
-
-    fn json(&self, path: &Path) -> String {
-        let file = quoted(&path.to_string_lossy());
-        match self {
-            Answer::Allowed(schedule) => {
-                let steps: Vec<String> = schedule
-                    .steps
-                    .iter()
-                    .map(|step| format!("[{},{},{}]", step.before, step.location, step.machine))
-                    .collect();
-                format!("{{\"file\":{file},\"verdict\":\"allowed\",\"steps\":[{}]}}\n", steps.join(","))
-            }
-            Answer::Impossible(event) => {
-                format!("{{\"file\":{file},\"verdict\":\"impossible\",\"event\":{event}}}\n")
-            }
-            Answer::Refused(refusal) => {
-                let number = refusal.number();
-                format!("{{\"file\":{file},\"verdict\":\"refused\",\"number\":{number},\"name\":\"{refusal:?}\"}}\n")
-            }
-        }
-    }
-}
-
-/// A JSON string.
-fn quoted(text: &str) -> String {
-    let mut quoted = String::from("\"");
-    for c in text.chars() {
-        match c {
-            '"' | '\\' => {
-                quoted.push('\\');
-                quoted.push(c);
-            }
-            c if c < ' ' => {
-                let _ = write!(quoted, "\\u{:04x}", c as u32);
-            }
-            c => quoted.push(c),
-        }
-    }
-    quoted.push('"');
-    quoted
-}
-
-fn one(judge: &mut Judge, path: &Path, write: bool, count: &mut Count) -> Result<Answer, Failure> {
-    let log = files::read_bytes(path)?;
-    let (judged, file) = match judge.file(&log) {
-        Ok(answer) => answer,
-        Err(refusal) => {
-            count.refused += 1;
-            return Ok(Answer::Refused(refusal));
-        }
+/// Puts the verdict file beside its log. Where that fails, an older file stays only if it is this log's verdict.
+fn keep(writer: &mut Writer, log: &Path, file: &[u8]) -> Result<(), String> {
+    let path = verdict_path(log);
+    let Err(error) = writer.replace(&path, file) else {
+        return Ok(());
     };
-    if write {
-        files::write(Some(verdict_path(path)?.as_os_str()), file)?;
+    let failed = format!("{}: {error}", shown(&path));
+    if !path.is_symlink() && files::bytes_of(&path).is_ok_and(|old| old == file) {
+        return Err(failed);
     }
-    Ok(match judged {
-        Judged::Allowed { .. } => {
-            count.allowed += 1;
-            Answer::Allowed(Schedule::of_file(file))
-        }
-        Judged::Impossible { event, .. } => {
-            count.impossible += 1;
-            Answer::Impossible(event)
-        }
-    })
+    match drop_file(writer, &path) {
+        Ok(()) => Err(failed),
+        Err(stale) => Err(format!("{failed}; {stale}")),
+    }
 }
 
-/// Beside the log, with another extension.
-fn verdict_path(log: &Path) -> Result<PathBuf, Failure> {
-    let path = log.with_extension("verdict");
-    if log == Path::new("-") || path == log {
-        return Err(Failure::new(format!("{}: no verdict file can stand beside it", log.display())));
-    }
-    Ok(path)
+/// Takes a verdict file away that is not its log's, or says that it stays.
+fn drop_file(writer: &mut Writer, path: &Path) -> Result<(), String> {
+    writer.remove(path).map_err(|error| format!("{} is stale and stays: {error}", shown(path)))
 }
 
-/// The file itself, or the .log files of a folder and of the folders in it, by name.
-fn collect(path: &Path, paths: &mut Vec<PathBuf>) -> Result<(), Failure> {
-    if !path.is_dir() {
-        paths.push(path.into());
+/// Where a log's verdict file stands: beside it, with another extension.
+pub fn verdict_path(log: &Path) -> PathBuf {
+    log.with_extension("verdict")
+}
+
+/// Asks, before anything is written, that no output is an input and that no two logs have one verdict file.
+fn check_outputs(found: &[Found], writes: bool, junit: Option<&Path>) -> Result<(), Failure> {
+    if !writes && junit.is_none() {
         return Ok(());
     }
-    let failed = |error| Failure::new(format!("{}: {error}", path.display()));
-    let mut entries = Vec::new();
-    for entry in std::fs::read_dir(path).map_err(failed)? {
-        entries.push(entry.map_err(failed)?);
+    let mut places = Places::default();
+    let mut taken: HashSet<PathBuf> = found.iter().flat_map(|found| places.read(&found.path)).collect();
+    if writes {
+        let verdicts = verdict_places(found, &mut places)?;
+        if let Some((_, log)) = verdicts.iter().find(|(verdict, _)| taken.contains(*verdict)) {
+            return Err(output::taken_already(&verdict_path(log)));
+        }
+        taken.extend(verdicts.into_keys());
     }
-    entries.sort_by_key(|entry| entry.file_name());
-    for entry in entries {
-        let kind = entry.file_type().map_err(failed)?;
-        let path = entry.path();
-        if kind.is_dir() {
-            collect(&path, paths)?;
-        } else if path.extension().is_some_and(|extension| extension == "log") {
-            paths.push(path);
+    match junit {
+        Some(path) if taken.contains(&places.of(path)) => Err(output::taken_already(path)),
+        _ => Ok(()),
+    }
+}
+
+/// The places of the verdict files, each with its log.
+fn verdict_places<'a>(found: &'a [Found], places: &mut Places) -> Result<HashMap<PathBuf, &'a Path>, Failure> {
+    let mut verdicts: HashMap<PathBuf, &Path> = HashMap::new();
+    for path in found.iter().map(|found| found.path.as_path()) {
+        if path == Path::new("-") {
+            return Err(Failure::new("-: no verdict file can stand beside standard input"));
+        }
+        let verdict = verdict_path(path);
+        let other = verdicts.insert(places.of(&verdict), path);
+        if let Some(other) = other.filter(|other| places.of(other) != places.of(path)) {
+            let (one, other, verdict) = (shown(other), shown(path), shown(&verdict));
+            return Err(Failure::new(format!("{one} and {other} would have one verdict file, {verdict}")));
         }
     }
-    Ok(())
+    Ok(verdicts)
 }

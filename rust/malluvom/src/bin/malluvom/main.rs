@@ -7,11 +7,15 @@ mod draw;
 mod explain;
 mod failure;
 mod files;
+mod folders;
 mod help;
 mod judge;
+mod names;
 mod options;
+mod output;
 mod progress;
 mod replay;
+mod report;
 mod run;
 mod show;
 mod text;
@@ -28,7 +32,7 @@ fn main() -> ExitCode {
         Ok(status) => ExitCode::from(status),
         Err(failure) => {
             failure.report();
-            ExitCode::from(2)
+            ExitCode::from(failure.status)
         }
     }
 }
@@ -53,5 +57,5 @@ fn run(words: &[OsString]) -> Result<u8, Failure> {
             help::one(command)
         }
     };
-    files::print(&said).map(|()| 0)
+    output::print(said.as_bytes()).map(|()| 0)
 }

@@ -3,11 +3,12 @@
 use std::fmt::Write;
 use std::path::Path;
 
-use malluvom::{replay, Edition, Log, Refusal, Replayed, Schedule, Step};
+use malluvom::{replay, Edition, Log, Replayed, Schedule, Step};
 
 use crate::failure::Failure;
 use crate::files;
 use crate::options::Options;
+use crate::output;
 
 pub fn command(options: &Options) -> Result<u8, Failure> {
     let (path, verdict) = match &options.files[..] {
@@ -20,8 +21,8 @@ pub fn command(options: &Options) -> Result<u8, Failure> {
         Some(file) => notes(&bytes, file)?,
         None => Notes::default(),
     };
-    files::write(options.value("-o"), text(&log, &notes).as_bytes())?;
-    Ok(0)
+    output::write(options, text(&log, &notes).as_bytes())?;
+    Ok(u8::from(notes.impossible.is_some() || notes.stops.is_some()))
 }
 
 /// What a verdict file adds to a log.
@@ -36,14 +37,14 @@ pub struct Notes {
 
 fn notes(log: &[u8], path: &Path) -> Result<Notes, Failure> {
     let file = files::read_bytes(path)?;
-    if let [0x10, 2, 0, 0, event, 0x04, 0, 0] = file[..] {
+    if let Some(event) = files::impossible_event(&file) {
         return Ok(Notes { impossible: Some(event), ..Notes::default() });
     }
     let stops = match replay(log, &file) {
         Ok(Replayed::Yes) => None,
         Ok(Replayed::No { passed }) => Some(passed),
-        Err(refusal @ Refusal::BadSchedule) => return Err(Failure::new(format!("{}: {refusal}", path.display()))),
-        Err(refusal) => return Err(Failure::new(refusal)),
+        // The log was accepted, so it is the file that is refused.
+        Err(refusal) => return Err(files::refused_verdict(path, refusal)),
     };
     Ok(Notes { schedule: Schedule::of_file(&file), impossible: None, stops })
 }
