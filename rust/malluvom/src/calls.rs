@@ -97,11 +97,11 @@ pub fn convert_into(log: &[u8], out: &mut [u8]) -> Result<usize, Refusal> {
 /// ([`Refusal::ValueTooLarge`]). There and back gives the same bytes, and the verdict is the same in both.
 ///
 /// ```
-/// use malluvom::{convert, Edition, Judge, Recorder, Refusal};
+/// use malluvom::{convert, Edition, Event, Judge, Recorder, Refusal};
 ///
 /// let mut recorder = Recorder::in_edition(Edition::Second, 1, 0b1)?;
 /// recorder.location(1)?;
-/// recorder.event(3, 1, 0, 65_535)?;             // MStore by 1 to L0 of 65535
+/// recorder.push(Event::m_store(1, 0, 65_535))?;
 /// let wide = recorder.finish()?;
 /// let narrow = convert(&wide)?;
 /// assert_eq!((wide.len(), narrow.len()), (22, 20));

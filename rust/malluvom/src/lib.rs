@@ -6,14 +6,14 @@
 //! buffers that judging needs.
 //!
 //! ```
-//! use malluvom::{Judge, Recorder, Verdict};
+//! use malluvom::{Event, Judge, Recorder, Verdict};
 //!
 //! let mut recorder = Recorder::new(2, 0b11)?;   // two machines with persistent memory
 //! recorder.location(2)?;                        // L0, in the memory of machine 2
-//! recorder.event(1, 1, 0, 1)?;                  // LStore by 1 to L0 of 1
-//! recorder.event(5, 1, 0, 0)?;                  // LFlush by 1 of L0
-//! recorder.event(7, 2, 0, 0)?;                  // Crash of 2
-//! recorder.event(4, 1, 0, 0)?;                  // Load by 1 of L0, 0
+//! recorder.push(Event::l_store(1, 0, 1))?;      // LStore by 1 to L0 of 1
+//! recorder.push(Event::l_flush(1, 0))?;         // LFlush by 1 of L0
+//! recorder.push(Event::crash(2))?;              // Crash of 2
+//! recorder.push(Event::load(1, 0, 0))?;         // Load by 1 of L0, 0
 //! let log = recorder.finish()?;
 //! match Judge::new().judge(&log)? {
 //!     Verdict::Allowed(schedule) => assert_eq!(schedule.to_string(), "1 0 1\n"),
@@ -24,6 +24,7 @@
 
 mod calls;
 mod edition;
+mod event;
 mod judging;
 pub mod log;
 mod machine_set;
@@ -34,8 +35,9 @@ pub mod schedule;
 pub use calls::{convert, convert_into, judge_into, read, record, replay, Counts, Judged, Replayed};
 pub use calls::{CONVERT_LEAST, FILE_MOST, LOG_MOST, SCRATCH_LEAST};
 pub use edition::Edition;
+pub use event::{Event, Operation};
 pub use judging::{Judge, Verdict};
-pub use log::{Event, Home, Kind, Log, Operation};
+pub use log::{Home, Kind, Log};
 pub use machine_set::MachineSet;
 pub use recorder::Recorder;
 pub use refusal::Refusal;

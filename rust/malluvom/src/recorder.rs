@@ -1,4 +1,4 @@
-use crate::{record, Edition, Home, Kind, MachineSet, Refusal, LOG_MOST};
+use crate::{record, Edition, Event, Home, Kind, Refusal, LOG_MOST};
 
 /// Builds a log field by field; each is checked by the proved recorder. Before that, a value that has no bytes in the
 /// log's edition is refused with [`Refusal::ValueTooLarge`].
@@ -42,19 +42,20 @@ impl Recorder {
         self.field(0x02, &home.payload(self.edition(), self.persistent())?)
     }
 
-    /// The next event, with an operation from 1 to 7 or 11. What it does not use must be 0.
+    /// The next event.
+    pub fn push(&mut self, event: Event) -> Result<(), Refusal> {
+        self.field(event.operation.tag(), &event.payload(self.edition())?)
+    }
+
+    /// The next event, given as numbers. An operation other than 1 to 7 and 11 is refused, and so is a number other
+    /// than 0 that the operation does not use.
     pub fn event(&mut self, operation: u8, machine: u8, location: u8, value: u32) -> Result<(), Refusal> {
         self.field(0x03, &self.edition().payload(&[operation, machine, location], &[value])?)
     }
 
-    /// The next event, a read-modify-write with an operation from 8 to 10.
+    /// The next event, a read-modify-write given as numbers. An operation other than 8 to 10 is refused.
     pub fn rmw(&mut self, operation: u8, machine: u8, location: u8, read: u32, written: u32) -> Result<(), Refusal> {
         self.field(0x05, &self.edition().payload(&[operation, machine, location], &[read, written])?)
-    }
-
-    /// The next event, a crash of two machines or more in one step.
-    pub fn set_crash(&mut self, machines: MachineSet) -> Result<(), Refusal> {
-        self.event(11, 0, machines.bits(), 0)
     }
 
     /// Any field.
