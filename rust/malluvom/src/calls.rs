@@ -111,7 +111,7 @@ pub fn convert_into(log: &[u8], out: &mut [u8]) -> Result<usize, Refusal> {
 /// let mut recorder = Recorder::in_edition(Edition::Second, 1, 0b1)?;
 /// recorder.location_initially(1, 65_536)?;
 /// assert_eq!(convert(&recorder.finish()?), Err(Refusal::ValueTooLarge));
-/// # Ok::<(), Refusal>(())
+/// # Ok::<(), malluvom::RecordError>(())
 /// ```
 pub fn convert(log: &[u8]) -> Result<Vec<u8>, Refusal> {
     let mut out = vec![0; CONVERT_LEAST];

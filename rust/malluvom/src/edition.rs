@@ -1,6 +1,6 @@
 use std::fmt;
 
-use crate::Refusal;
+use crate::RecordError;
 
 /// The editions of a log, which differ in the tag of the first field and in how many bytes a value has. The
 /// discriminant is the number.
@@ -61,12 +61,13 @@ impl Edition {
         u32::MAX >> (32 - 8 * self.value_bytes())
     }
 
-    /// The payload of a field in a log of this edition: some bytes and then values, low byte first.
-    pub fn payload(self, bytes: &[u8], values: &[u32]) -> Result<Vec<u8>, Refusal> {
+    /// The payload of a field in a log of this edition: some bytes and then values, low byte first. The only error is
+    /// [`RecordError::ValueTooWide`].
+    pub fn payload(self, bytes: &[u8], values: &[u32]) -> Result<Vec<u8>, RecordError> {
         let mut payload = bytes.to_vec();
         for &value in values {
             if value > self.value_most() {
-                return Err(Refusal::ValueTooLarge);
+                return Err(RecordError::ValueTooWide { value });
             }
             payload.extend(&value.to_le_bytes()[..self.value_bytes()]);
         }

@@ -1,6 +1,6 @@
 use std::fmt;
 
-use crate::{Edition, MachineSet, Refusal};
+use crate::{Edition, MachineSet, RecordError};
 
 /// What an event does.
 #[derive(Clone, Copy, Debug, PartialEq, Eq, Hash)]
@@ -206,8 +206,8 @@ impl Event {
     }
 
     /// The payload of the event's field in a log of this edition: three bytes and a value, or two for a
-    /// read-modify-write. What has no bytes there is left out.
-    pub fn payload(&self, edition: Edition) -> Result<Vec<u8>, Refusal> {
+    /// read-modify-write. What has no bytes there is left out. The only error is [`RecordError::ValueTooWide`].
+    pub fn payload(&self, edition: Edition) -> Result<Vec<u8>, RecordError> {
         let third = if self.operation == Operation::SetCrash { self.machines.bits() } else { self.location };
         let values = &[self.value, self.written][..if self.operation.is_rmw() { 2 } else { 1 }];
         edition.payload(&[self.operation.code(), self.machine, third], values)

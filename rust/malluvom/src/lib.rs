@@ -19,7 +19,7 @@
 //!     Verdict::Allowed(schedule) => assert_eq!(schedule.to_string(), "1 0 1\n"),
 //!     Verdict::Impossible { event } => panic!("no run explains event {event}"),
 //! }
-//! # Ok::<(), malluvom::Refusal>(())
+//! # Ok::<(), malluvom::RecordError>(())
 //! ```
 
 mod calls;
@@ -28,6 +28,7 @@ mod event;
 mod judging;
 pub mod log;
 mod machine_set;
+mod record_error;
 mod recorder;
 mod refusal;
 pub mod schedule;
@@ -39,6 +40,7 @@ pub use event::{Event, Operation};
 pub use judging::{Judge, Verdict};
 pub use log::{Home, Kind, Log};
 pub use machine_set::MachineSet;
+pub use record_error::RecordError;
 pub use recorder::Recorder;
 pub use refusal::Refusal;
 pub use schedule::{Schedule, Step};

@@ -1,7 +1,7 @@
-use crate::{record, Edition, Event, Home, Kind, Refusal, LOG_MOST};
+use crate::{record, Edition, Event, Home, Kind, RecordError, Refusal, LOG_MOST};
 
-/// Builds a log field by field; each is checked by the proved recorder. Before that, a value that has no bytes in the
-/// log's edition is refused with [`Refusal::ValueTooLarge`].
+/// Builds a log field by field; each is checked by the proved recorder. A call that takes values can also fail before
+/// the recorder is asked, by [`RecordError::ValueTooWide`].
 pub struct Recorder {
     buffer: [u8; LOG_MOST],
     used: usize,
@@ -28,34 +28,41 @@ impl Recorder {
 
     /// The next location, in the memory of this machine, of the machine's kind, which starts as zero.
     pub fn location(&mut self, owner: u8) -> Result<(), Refusal> {
-        self.location_initially(owner, 0)
+        self.field(0x02, &[owner])
     }
 
     /// The next location, in the memory of this machine, of the machine's kind, which holds the initial value at
     /// power-on and, if it is volatile, again after a crash.
-    pub fn location_initially(&mut self, owner: u8, initial: u32) -> Result<(), Refusal> {
+    pub fn location_initially(&mut self, owner: u8, initial: u32) -> Result<(), RecordError> {
         self.home(Home { owner, initial, kind: Kind::of_machine(owner, self.persistent()) })
     }
 
     /// The next location, in memory of either kind. An initial value of 0 and the owner's own kind have no bytes.
-    pub fn home(&mut self, home: Home) -> Result<(), Refusal> {
-        self.field(0x02, &home.payload(self.edition(), self.persistent())?)
+    pub fn home(&mut self, home: Home) -> Result<(), RecordError> {
+        Ok(self.field(0x02, &home.payload(self.edition(), self.persistent())?)?)
     }
 
     /// The next event.
-    pub fn push(&mut self, event: Event) -> Result<(), Refusal> {
-        self.field(event.operation.tag(), &event.payload(self.edition())?)
+    pub fn push(&mut self, event: Event) -> Result<(), RecordError> {
+        Ok(self.field(event.operation.tag(), &event.payload(self.edition())?)?)
     }
 
     /// The next event, given as numbers. An operation other than 1 to 7 and 11 is refused, and so is a number other
     /// than 0 that the operation does not use.
-    pub fn event(&mut self, operation: u8, machine: u8, location: u8, value: u32) -> Result<(), Refusal> {
-        self.field(0x03, &self.edition().payload(&[operation, machine, location], &[value])?)
+    pub fn event(&mut self, operation: u8, machine: u8, location: u8, value: u32) -> Result<(), RecordError> {
+        Ok(self.field(0x03, &self.edition().payload(&[operation, machine, location], &[value])?)?)
     }
 
     /// The next event, a read-modify-write given as numbers. An operation other than 8 to 10 is refused.
-    pub fn rmw(&mut self, operation: u8, machine: u8, location: u8, read: u32, written: u32) -> Result<(), Refusal> {
-        self.field(0x05, &self.edition().payload(&[operation, machine, location], &[read, written])?)
+    pub fn rmw(
+        &mut self,
+        operation: u8,
+        machine: u8,
+        location: u8,
+        read: u32,
+        written: u32,
+    ) -> Result<(), RecordError> {
+        Ok(self.field(0x05, &self.edition().payload(&[operation, machine, location], &[read, written])?)?)
     }
 
     /// Any field.

@@ -36,7 +36,7 @@ pub enum Refusal {
     BadMachineSet,
     /// A kind byte other than the one that differs from the owner's.
     BadKind,
-    /// A value over 65,535, which has no bytes in edition 1.
+    /// A log of edition 2 with a value over 65,535 is to be converted: the value has no bytes in edition 1.
     ValueTooLarge,
 }
 

@@ -1,8 +1,9 @@
 //! Text to log bytes. docs/TEXT-FORM.md describes the text.
 
+use std::fmt::Display;
 use std::path::Path;
 
-use malluvom::{Edition, Home, Kind, Recorder, Refusal, Schedule, Step};
+use malluvom::{Edition, Home, Kind, Recorder, Schedule, Step};
 
 use crate::failure::Failure;
 use crate::files;
@@ -50,8 +51,8 @@ impl Sink {
     }
 }
 
-fn in_words(refusal: Refusal) -> String {
-    refusal.to_string()
+fn in_words(error: impl Display) -> String {
+    error.to_string()
 }
 
 /// Assembles a text; a failure names the file and the line.
