@@ -1,8 +1,10 @@
 use std::fmt;
 
-/// Why an input is refused. The discriminant is the number of the specification.
+/// Why an input is refused. The discriminant is the number of the specification. New calls will bring new numbers, so a
+/// match needs an arm for them.
 #[derive(Clone, Copy, Debug, PartialEq, Eq, Hash, PartialOrd, Ord)]
 #[repr(u8)]
+#[non_exhaustive]
 pub enum Refusal {
     /// A lent buffer is too short, or the field does not fit.
     BufferTooShort = 1,
@@ -42,7 +44,7 @@ pub enum Refusal {
 
 impl Refusal {
     /// All refusals, by rising number.
-    pub const ALL: [Refusal; 17] = [
+    pub const ALL: &[Refusal] = &[
         Refusal::BufferTooShort,
         Refusal::Truncated,
         Refusal::UnexpectedTag,
@@ -69,7 +71,7 @@ impl Refusal {
 
     /// The refusal with this number.
     pub fn from_number(number: u8) -> Option<Refusal> {
-        Self::ALL.into_iter().find(|refusal| refusal.number() == number)
+        Self::ALL.iter().copied().find(|refusal| refusal.number() == number)
     }
 
     /// What is wrong, in words.
