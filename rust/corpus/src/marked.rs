@@ -5,6 +5,7 @@ use second::{Edition, Event, Home, Log, Operation, Operation::*};
 use crate::{other_part, plain};
 
 /// A marked log: what it is, its records, and its first impossible event or nothing if it is allowed.
+#[derive(Debug)]
 pub struct Marked {
     /// In words.
     pub name: &'static str,

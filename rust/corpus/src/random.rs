@@ -1,5 +1,5 @@
 /// Random numbers from a seed (splitmix64): the same on every machine.
-#[derive(Clone)]
+#[derive(Clone, Debug)]
 pub struct Random(u64);
 
 impl Random {

@@ -1,3 +1,5 @@
+use std::fmt;
+
 use crate::{record, Edition, Event, Home, Kind, RecordError, Refusal, LOG_MOST};
 
 /// Builds a log field by field; each is checked by the proved recorder. A call that takes values can also fail before
@@ -91,5 +93,12 @@ impl Recorder {
     pub fn finish(mut self) -> Result<Vec<u8>, Refusal> {
         self.field(0x04, &[])?;
         Ok(self.bytes().to_vec())
+    }
+}
+
+/// The bytes so far in hexadecimal, without the room after them.
+impl fmt::Debug for Recorder {
+    fn fmt(&self, f: &mut fmt::Formatter) -> fmt::Result {
+        write!(f, "Recorder({:02x?})", self.bytes())
     }
 }
