@@ -41,6 +41,31 @@ examples_print() {
     return $status
 }
 
+# The wrapper's example as a crate of another workspace, which depends on the wrapper by its path.
+another_workspace() {
+    local crate=$work/elsewhere
+    mkdir -p "$crate/src"
+    cp malluvom/examples/verdict.rs "$crate/src/main.rs"
+    cat >"$crate/Cargo.toml" <<END
+[workspace]
+
+[package]
+name = "elsewhere"
+version = "0.1.0"
+edition = "2021"
+
+[dependencies]
+malluvom = { path = "$PWD/malluvom" }
+END
+    (cd "$crate" && CARGO_TARGET_DIR=target cargo build --offline -q) && examples_print "$crate/target/debug/elsewhere"
+}
+
+# Nobody can tell what a relative folder is relative to, and the build says so.
+relative_folder() {
+    ! MALLUVOM_LIB_DIR=. CARGO_TARGET_DIR=$work/relative cargo build -q -p malluvom-sys >"$work/relative.txt" 2>&1 &&
+        grep 'MALLUVOM_LIB_DIR must be an absolute path' "$work/relative.txt"
+}
+
 verdict_script() {
     local log=../examples/marked/04.log expected=../examples/marked/04.out
     ../verdict "$log" | diff - "$expected" && ../verdict - <"$log" | diff - "$expected" &&
@@ -68,12 +93,15 @@ try "the proved library" proved_library
 try "the verdict program" verdict_program
 try "format" cargo fmt --check
 try "build without warnings" builds_without_warnings
+try "documentation without warnings" env RUSTDOCFLAGS="-D warnings" cargo doc -q --no-deps
 try "tests" cargo test -q
 try "examples: both judges" target/release/compare examples ../examples
 try "examples: stored outputs" examples_print ../target/bin/verdict
 try "the verdict script" verdict_script
 try "examples: from C" c_example
 try "examples: from Python" python_module
+try "examples: from another workspace" another_workspace
+try "a relative library folder" relative_folder
 try "comparison with the second judge" target/release/compare
 tail -n 1 "$work/out"
 

@@ -7,10 +7,15 @@ use std::{env, process};
 fn main() {
     println!("cargo:rerun-if-env-changed=MALLUVOM_LIB_DIR");
     let here = PathBuf::from(env::var_os("CARGO_MANIFEST_DIR").expect("cargo sets CARGO_MANIFEST_DIR"));
-    let folder = match env::var_os("MALLUVOM_LIB_DIR") {
+    let folder = match env::var_os("MALLUVOM_LIB_DIR").filter(|named| !named.is_empty()) {
         Some(named) => PathBuf::from(named),
         None => here.join("../../target/staticlib"),
     };
+    // Neither this script nor the linker runs in the folder that cargo was called in.
+    if folder.is_relative() {
+        eprintln!("MALLUVOM_LIB_DIR must be an absolute path, and is {}", folder.display());
+        process::exit(1);
+    }
     let library = folder.join("libcapi.a");
     println!("cargo:rerun-if-changed={}", library.display());
     if !library.is_file() {

@@ -1,8 +1,10 @@
 //! Holds the proved library to the second judge: every answer and every byte of every buffer, on logs from fixed seeds
 //! or on the files of a folder.
 //!
-//!     compare [ROUNDS]           random logs; more rounds take other seeds
-//!     compare examples FOLDER    every .log file of the folder's folders, with its stored .out
+//! ```text
+//! compare [ROUNDS]           random logs; more rounds take other seeds
+//! compare examples FOLDER    every .log file of the folder's folders, with its stored .out
+//! ```
 
 mod converting;
 mod examples;

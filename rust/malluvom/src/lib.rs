@@ -21,6 +21,18 @@
 //! }
 //! # Ok::<(), malluvom::RecordError>(())
 //! ```
+//!
+//! A crate of another workspace depends on this one by its path:
+//!
+//! ```toml
+//! [dependencies]
+//! malluvom = { path = "<repository>/rust/malluvom" }
+//! ```
+//!
+//! If the repository lies inside the folder of that workspace, the workspace leaves it out by
+//! `exclude = ["<repository>"]`; without that, cargo takes this crate for one of its members. The proved library is
+//! looked for in `target/staticlib` of the repository, or in the folder that the environment variable
+//! `MALLUVOM_LIB_DIR` names by an absolute path.
 
 mod calls;
 mod edition;

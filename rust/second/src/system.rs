@@ -2,7 +2,7 @@
 
 use crate::{log, read_schedule, Event, Kind, Log, Operation, Refusal, Step};
 
-/// The state of a whole system. It shares nothing with [`crate::local`], so that the two check each other.
+/// The state of a whole system. It shares nothing with the module `local`, so that the two check each other.
 #[derive(Clone, Debug, PartialEq, Eq, Hash)]
 pub struct System {
     /// What each machine's cache holds for each location.
