@@ -66,10 +66,24 @@ relative_folder() {
         grep 'MALLUVOM_LIB_DIR must be an absolute path' "$work/relative.txt"
 }
 
+# gives STATUS COMMAND...: the command has this exit status.
+gives() {
+    local expected=$1 status
+    shift
+    "$@" >/dev/null
+    status=$?
+    [ "$status" -eq "$expected" ] || { echo "$* has status $status, not $expected"; return 1; }
+}
+
+# The verdict script prints what the program prints and has a status, also through a link.
 verdict_script() {
     local log=../examples/marked/04.log expected=../examples/marked/04.out
+    ln -s "$(realpath ../verdict)" "$work/link"
     ../verdict "$log" | diff - "$expected" && ../verdict - <"$log" | diff - "$expected" &&
-        ../verdict <"$log" | diff - "$expected" && ! ../verdict /nowhere && ! ../verdict a b
+        ../verdict <"$log" | diff - "$expected" && "$work/link" "$log" | diff - "$expected" &&
+        gives 0 ../verdict "$log" && gives 1 ../verdict ../examples/marked/05.log &&
+        gives 1 ../verdict ../examples/edges/01-empty.log && gives 1 "$work/link" ../examples/marked/05.log &&
+        gives 2 ../verdict /nowhere && gives 2 ../verdict .. && gives 2 ../verdict a b
 }
 
 c_example() {
@@ -95,6 +109,7 @@ try "format" cargo fmt --check
 try "build without warnings" builds_without_warnings
 try "documentation without warnings" env RUSTDOCFLAGS="-D warnings" cargo doc -q --no-deps
 try "tests" cargo test -q
+try "what the tool gives to machines" python3 ../tests/tool_output.py target/release/malluvom
 try "examples: both judges" target/release/compare examples ../examples
 try "examples: stored outputs" examples_print ../target/bin/verdict
 try "the verdict script" verdict_script

@@ -4,13 +4,13 @@ use std::fmt::Write;
 use std::os::unix::ffi::OsStrExt;
 use std::path::Path;
 
-/// A path for people: control characters and bytes that are no UTF-8 are escaped, and so is the backslash.
+/// A path for people: what does not show, bytes that are no UTF-8, and the backslash are escaped.
 pub fn shown(path: &Path) -> String {
     let mut text = String::new();
     for chunk in path.as_os_str().as_bytes().utf8_chunks() {
         for c in chunk.valid().chars() {
             match c {
-                c if c.is_control() || c == '\\' => text.extend(c.escape_default()),
+                c if is_hidden(c) || c == '\\' => text.extend(c.escape_default()),
                 c => text.push(c),
             }
         }
@@ -19,6 +19,12 @@ pub fn shown(path: &Path) -> String {
         }
     }
     text
+}
+
+/// Control characters, line separators, and marks that have no width or turn the direction of the text.
+fn is_hidden(c: char) -> bool {
+    c.is_control()
+        || matches!(c, '\u{200b}'..='\u{200f}' | '\u{2028}'..='\u{202e}' | '\u{2066}'..='\u{2069}' | '\u{feff}')
 }
 
 /// A path as members of a JSON object: its name and, where that is no UTF-8, also its bytes in hexadecimal.
