@@ -1,7 +1,10 @@
 -- The parts of an answer are read back from their bits: those of a packed answer are the answer's.
-use Prim.Native.Nat.{ℕ, _/_, _%_, _^_, _<_}
+use Prim.Native.Nat.{ℕ, zero, suc, _+_, _-_, _/_, _%_, _^_, _<_}
 use native.Mathlib.Omega.{arith}
-use mathlib.Core.Path.{_≡_}
+use lib.Dec.{eqb}
+use mathlib.Core.Path.{_≡_, refl}
+use mathlib.Core.Bool.{cond}
+use mathlib.Core.List.{List, [], _∷_}
 use Rattle.fields.specs.declared.Edition.{Edition}
 use Rattle.reader.specs.Answers.{holds}
 use Rattle.recorder.specs.Recording.{count}
@@ -9,6 +12,7 @@ use Rattle.converter.specs.Converting as converting
 use Rattle.replay.specs.Replaying.{no}
 use Rattle.judge.specs.Judging.{gives}
 use Rattle.capi.specs.Packing.{packRecorded, packSummary, packConverted, packReplayed, packJudged}
+use Rattle.capi.specs.Version.{requests, packVersion}
 
 -- So many bits of a number from a place on.
 abbrev pub bits : (from size : ℕ) → ℕ → ℕ
@@ -38,3 +42,15 @@ pub judged-parts : (v e s l : ℕ) → v < 2 → e < 2 ^ 8 → s < 2 ^ 16 → l 
     → let p = packJudged (gives v e s l) in
     (bits 0 8 p ≡ 0) × (bits 8 1 p ≡ v) × (bits 16 8 p ≡ e) × (bits 24 16 p ≡ s) × (bits 40 16 p ≡ l)
 judged-parts v e s l a b c d = (omega arith, omega arith, omega arith, omega arith, omega arith)
+
+-- The requests whose bits are set, of so many from the first one on.
+abbrev pub requestsIn : (packed first many : ℕ) → List ℕ
+requestsIn packed first zero = []
+requestsIn packed first (suc k) =
+    let rest = requestsIn packed (suc first) k in
+    cond (eqb (bits (8 + (first - 201)) 1 packed) 1) (first ∷ rest) rest
+
+-- 56 requests, W-201 to W-256, have a bit in a number of 64 bits.
+pub version-parts : let p = packVersion requests in
+    (bits 0 8 p ≡ 0) × (requestsIn p 201 56 ≡ requests)
+version-parts = (refl, refl)

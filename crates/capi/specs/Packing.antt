@@ -1,4 +1,4 @@
--- The answers of the five calls, each as one number of 64 bits. Bits 0 to 7 are the number of a refusal, or 0
+-- The answers of the calls on logs, each as one number of 64 bits. Bits 0 to 7 are the number of a refusal, or 0
 -- if there is none, and a refusal leaves all other bits 0. Bits that are not named are 0.
 use Prim.Native.Nat.{ℕ, _+_, _*_, _^_, _<_}
 use mathlib.Core.Path.{_≡_}

@@ -1,6 +1,6 @@
 // The calls for C, Rust and Python: `cxl0_record`, `cxl0_read`, `cxl0_convert`, `cxl0_replay` and `cxl0_judge` make the
-// proved calls and pack each answer in one number, as specs/Packing.antt says. In C a slice is a pointer and a length.
-// No call has a `requires`.
+// proved calls and pack each answer in one number, as specs/Packing.antt says; `cxl0_version` says which change
+// requests are in them, as specs/Version.antt does. In C a slice is a pointer and a length. No call has a `requires`.
 mod packing;
 
 use converter::convert;
@@ -21,6 +21,7 @@ ghost use Rattle.converter.specs.Converting as converting;
 ghost use Rattle.converter.specs.Converting.{conversion, told};
 ghost use Rattle.replay.specs.Replaying.{replayLog};
 ghost use Rattle.capi.specs.Packing.{packRecorded, packSummary, packConverted, packReplayed, JudgesPacked};
+ghost use Rattle.capi.specs.Version.{requests, packVersion};
 
 // Puts one field after the used bytes of a buffer. No other byte changes; on a refusal none does.
 #[no_mangle]
@@ -67,4 +68,12 @@ pub extern "C" fn cxl0_judge(log: &[u8], out: &mut [u8], offset: usize, scratch:
         r (now (out .exit)) (now (scratch .exit)) ⌝ }
 {
     pack_judged(judge(log, out, offset, scratch))
+}
+
+// Says which change requests of document 02 are in this library: W-201 to W-206 and W-211.
+#[no_mangle]
+pub extern "C" fn cxl0_version() -> u64
+    ensures { λ r. ⌜ r ≡ packVersion requests ⌝ }
+{
+    0x43f00
 }
