@@ -1,9 +1,12 @@
 /* Malluvom's calls for C: a proved judge of CXL0 logs. Link with libcapi.a, which `rt staticlib capi` builds at
  * target/staticlib/libcapi.a.
  *
- * A buffer is a pointer and a length; the length of `scratch` counts 64-bit numbers. Buffers must not overlap. Nothing
- * else is asked of the arguments. Each answer is one number: bits 0 to 7 are the number of a refusal, or 0 if there is
- * none, and a refusal leaves all other bits 0 and every buffer as it was. Bits that are not named are 0.
+ * A buffer is a pointer and a length; the length of `scratch` counts 64-bit numbers. A pointer may be NULL where its
+ * length is 0. Buffers must not overlap. Nothing else is asked of the arguments. The calls keep no state, so several
+ * threads may make them at once, each on its own buffers.
+ *
+ * Each answer is one number: bits 0 to 7 are the number of a refusal, or 0 if there is none, and a refusal leaves all
+ * other bits 0 and every buffer as it was. Bits that are not named are 0.
  *
  * A log is of edition 1 or 2. They differ in the tag of the first field, 1 or 6, which is the log's first byte, and in
  * how many bytes a value has, 2 or 4, low byte first. */
@@ -76,6 +79,10 @@ uint64_t cxl0_replay(const uint8_t *log, size_t log_len, const uint8_t *schedule
 uint64_t cxl0_judge(const uint8_t *log, size_t log_len, uint8_t *out, size_t out_len, size_t offset,
                     uint64_t *scratch, size_t scratch_len);
 
+/* Says which change requests are in the library: bit 8 for W-201, bit 9 for W-202 and so on, up to bit 63 for W-256.
+ * With W-201 to W-206 and W-211 it answers 0x43f00. */
+uint64_t cxl0_version(void);
+
 static inline unsigned cxl0_refused(uint64_t answer) { return answer & 0xff; }
 
 static inline size_t cxl0_record_count(uint64_t answer) { return answer >> 8 & 0xffffffff; }
@@ -93,6 +100,11 @@ static inline int cxl0_judge_allowed(uint64_t answer) { return answer >> 8 & 1; 
 static inline unsigned cxl0_judge_event(uint64_t answer) { return answer >> 16 & 0xff; }
 static inline unsigned cxl0_judge_steps(uint64_t answer) { return answer >> 24 & 0xffff; }
 static inline unsigned cxl0_judge_length(uint64_t answer) { return answer >> 40 & 0xffff; }
+
+/* Whether a version has a request, 201 for W-201. None has one below 201 or above 256. */
+static inline int cxl0_version_has(uint64_t version, unsigned request) {
+    return request >= 201 && request <= 256 && (version >> (request - 193) & 1);
+}
 
 #ifdef __cplusplus
 }

@@ -1,5 +1,5 @@
 //! The C interface of Malluvom, as `include/cxl0.h` declares it. Nothing checks these declarations against the proved
-//! source, so they are five functions on numbers and buffers; `malluvom` is the safe form.
+//! source, so they are six functions on numbers and buffers; `malluvom` is the safe form.
 #![no_std]
 
 /// A verdict file has at most so many bytes, which the output must have after the offset.
@@ -41,4 +41,7 @@ extern "C" {
         scratch: *mut u64,
         scratch_len: usize,
     ) -> u64;
+
+    /// Says which change requests are in the library. Bits 0 to 7: 0; 8: W-201; 9: W-202 and so on.
+    pub fn cxl0_version() -> u64;
 }

@@ -1,4 +1,4 @@
-//! The five calls of the proved library. The only `unsafe` of this crate is here: each call hands over slices as
+//! The six calls of the proved library. The only `unsafe` of this crate is here: each call hands over slices as
 //! pointer and length, and the library asks nothing of the numbers beside them.
 
 use crate::Refusal;
@@ -151,4 +151,14 @@ pub fn judge_into(log: &[u8], out: &mut [u8], offset: usize, scratch: &mut [u64]
         1 => Judged::Allowed { steps: bits(answer, 24, 16) as u16, length },
         _ => Judged::Impossible { event: bits(answer, 16, 8) as u8, length },
     })
+}
+
+/// The change requests that are in the library, by their numbers from the lowest on: 201 for W-201.
+///
+/// ```
+/// assert!(malluvom::requests().contains(&211), "values of 32 bits");
+/// ```
+pub fn requests() -> Vec<u16> {
+    let version = unsafe { malluvom_sys::cxl0_version() };
+    (201..).zip(8..64).filter(|&(_, bit)| bits(version, bit, 1) == 1).map(|(request, _)| request).collect()
 }

@@ -45,7 +45,7 @@ mod recorder;
 mod refusal;
 pub mod schedule;
 
-pub use calls::{convert, convert_into, judge_into, read, record, replay, Counts, Judged, Replayed};
+pub use calls::{convert, convert_into, judge_into, read, record, replay, requests, Counts, Judged, Replayed};
 pub use calls::{CONVERT_LEAST, FILE_MOST, LOG_MOST, SCRATCH_LEAST};
 pub use edition::Edition;
 pub use event::{Event, Operation};
