@@ -12,6 +12,7 @@ CALLS = [("reader", "read"), ("recorder", "record"), ("converter", "convert"), (
 FOR_C = "capi"
 PROMISES = "crates/promises/proofs/Promises.antt"
 WORD = re.compile(r"\|\||\[\]|[^\s(){}\[\],;|⌜⌝]+")
+LABEL = re.compile(r"(?<=[{;])\s*\S+ =|^  pub \S+ :", flags=re.M)  # of a field: it may have a definition's name
 
 
 def calls(path, text):
@@ -80,7 +81,7 @@ class Tree:
     def named(self, path, text):
         """What a text of a file names."""
         file, found = self.file(path), set()
-        for word in WORD.findall(text):
+        for word in WORD.findall(LABEL.sub("", text)):
             head, _, rest = word.partition(".")
             if word in file.of:
                 found.add(("definition", path, file.of[word]))
