@@ -85,7 +85,7 @@ impl Pair {
     /// The explanation of an impossible log, which can be drawn too.
     pub fn why(&self) -> String {
         let output = tool(&["explain", &self.log]);
-        assert_eq!((status(&output), status(&tool(&["draw", &self.log]))), (1, 0));
+        assert_eq!((status(&output), status(&tool(&["draw", &self.log]))), (1, 1));
         String::from_utf8(output.stdout).unwrap()
     }
 
