@@ -42,9 +42,10 @@ pub fn one(command: &Command) -> String {
     text
 }
 
-/// The text of `malluvom --version`.
+/// The text of `malluvom --version`: the tool's version, and the change requests that the proved library has.
 pub fn version() -> String {
-    format!("malluvom {}\n", env!("CARGO_PKG_VERSION"))
+    let requests: Vec<String> = malluvom::requests().iter().map(|number| format!("W-{number}")).collect();
+    format!("malluvom {}, with requests {}\n", env!("CARGO_PKG_VERSION"), requests.join(" "))
 }
 
 /// The manual page, in the macros of man(7).
