@@ -1,17 +1,13 @@
-"""Tests of the Python module: python3 python/test_malluvom.py, after python/build.sh."""
+"""Tests of what the calls answer. After python/build.sh, `python3 -m unittest discover -s python` runs all tests."""
 
 import ctypes
 import doctest
-import sys
 import unittest
 from pathlib import Path
 
-HERE = Path(__file__).resolve().parent
-sys.path.insert(0, str(HERE))
+import malluvom
 
-import malluvom  # noqa: E402
-
-EXAMPLES = HERE.parent / "examples"
+EXAMPLES = Path(__file__).resolve().parent.parent / "examples"
 
 
 def answer(log: bytes) -> str:

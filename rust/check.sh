@@ -92,7 +92,7 @@ c_example() {
 }
 
 python_module() {
-    ../python/build.sh && python3 ../python/test_malluvom.py
+    ../python/build.sh && python3 -m unittest discover -s ../python
 }
 
 proved_library() {
