@@ -32,6 +32,7 @@ ACCEPTED = {
     "convert": lambda: {"log": LOG, "out": bytearray(malluvom.CONVERT_LEAST)},
     "replay": lambda: {"log": LOG, "schedule": FILE},
     "judge": lambda: {"log": LOG, "out": bytearray(malluvom.FILE_MOST + 3), "offset": 3, "scratch": Scratch()},
+    "version": lambda: {},
 }
 # The arguments that are read, those that are written into, and those that are numbers.
 READ = [(name, "log") for name in ("read", "edition", "convert", "replay", "judge")]
@@ -87,6 +88,11 @@ class Names(unittest.TestCase):
             value = getattr(malluvom, name)
             if callable(value):
                 self.assertTrue(value.__doc__ and value.__doc__.split("\n")[0] in text, name)
+
+    def test_the_library_has_the_requests_that_landed(self):
+        landed = {int(note.stem[2:]) for note in (ROOT / "docs" / "landings").glob("W-*.md")}
+        self.assertLessEqual(malluvom.version(), landed)
+        self.assertLessEqual({201, 202, 203, 204, 205, 206, 211}, malluvom.version())
 
 
 class Hints(unittest.TestCase):

@@ -71,6 +71,7 @@ __all__ = [
     "read",
     "record",
     "replay",
+    "version",
 ]
 
 # A verdict file has at most so many bytes.
@@ -242,3 +243,12 @@ def judge(
     allowed = bool(_library.bits(answer, 8, 1))
     steps = tuple(Step(*file[at + 3 : at + 6]) for at in range(5, len(file) - 3, 6)) if allowed else ()
     return Verdict(allowed, _library.bits(answer, 16, 8), steps, file)
+
+
+def version() -> frozenset[int]:
+    """The numbers of the change requests that the library has: 211 is W-211."""
+    # Looked up at the call, so that a library from before it can still be loaded.
+    call = _library.calls.cxl0_version
+    call.restype = ctypes.c_uint64
+    answer = call()
+    return frozenset(number for number in range(201, 257) if _library.bits(answer, 8 + number - 201, 1))
