@@ -5,17 +5,23 @@
 set -eu
 root=$(cd "$(dirname "$0")/.." && pwd)
 file=${1:-$root/target/python/libcxl0.so}
-library=$(realpath -m "${MALLUVOM_LIB_DIR:-$root/target/staticlib}")/libcapi.a
-if [ ! -f "$library" ] && [ -z "${MALLUVOM_LIB_DIR:-}" ]; then
-    if ! command -v rt >/dev/null; then
-        echo "build.sh: $library is not there, and neither is rt, which builds it" >&2
-        exit 2
-    fi
+named=${MALLUVOM_LIB_DIR:-}
+library=${named:-$root/target/staticlib}/libcapi.a
+
+fail() {
+    echo "build.sh: $1" >&2
+    exit 2
+}
+
+# pip runs this script in another folder than the one that it was called in.
+case $named in
+"" | /*) ;;
+*) fail "MALLUVOM_LIB_DIR must be an absolute path, and is $named" ;;
+esac
+if [ -z "$named" ] && [ ! -f "$library" ]; then
+    command -v rt >/dev/null || fail "$library is not there, and neither is rt, which builds it"
     (cd "$root" && rt staticlib capi) >&2
 fi
-if [ ! -f "$library" ]; then
-    echo "build.sh: $library is not there" >&2
-    exit 2
-fi
+[ -f "$library" ] || fail "$library is not there"
 mkdir -p "$(dirname "$file")"
 gcc -shared -o "$file" -Wl,--whole-archive "$library" -Wl,--no-whole-archive

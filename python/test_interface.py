@@ -90,7 +90,7 @@ class Names(unittest.TestCase):
                 self.assertTrue(value.__doc__ and value.__doc__.split("\n")[0] in text, name)
 
     def test_the_library_has_the_requests_that_landed(self):
-        landed = {int(note.stem[2:]) for note in (ROOT / "docs" / "landings").glob("W-*.md")}
+        landed = {int(note.stem[2:]) for note in (ROOT / "docs" / "landings").glob("W-???.md")}
         self.assertLessEqual(malluvom.version(), landed)
         self.assertLessEqual({201, 202, 203, 204, 205, 206, 211}, malluvom.version())
 

@@ -64,7 +64,7 @@ class Building(Folder):
         """Runs build.sh of a repository in which nothing is built, with an `rt` that only copies the library."""
         python, rt = self.folder / "repository" / "python", self.folder / "bin" / "rt"
         for parent in python, rt.parent:
-            parent.mkdir(parents=True)
+            parent.mkdir(parents=True, exist_ok=True)
         shutil.copy(HERE / "build.sh", python)
         rt.write_text(f'#!/bin/sh -eu\necho "rt $*"\nmkdir -p target\ncp -r "{STATIC}" target/staticlib\n')
         rt.chmod(0o755)
@@ -81,10 +81,13 @@ class Building(Folder):
         self.assertEqual((built.returncode, built.stdout), (0, ""))
         self.assertTrue((self.folder / "named" / "libcxl0.so").is_file())
 
-    def test_a_named_folder_without_the_library(self):
-        built = self.build(MALLUVOM_LIB_DIR="nowhere")
-        message = f"build.sh: {self.folder}/nowhere/libcapi.a is not there\n"
-        self.assertEqual((built.returncode, built.stdout), (2, message))
+    def test_a_wrong_folder(self):
+        for named, sentence in (
+            ("/nowhere", "/nowhere/libcapi.a is not there"),
+            ("nowhere", "MALLUVOM_LIB_DIR must be an absolute path, and is nowhere"),
+        ):
+            built = self.build(MALLUVOM_LIB_DIR=named)
+            self.assertEqual((built.returncode, built.stdout), (2, f"build.sh: {sentence}\n"))
 
 
 class Installing(Folder):
