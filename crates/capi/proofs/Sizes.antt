@@ -2,7 +2,7 @@
 use Prim.Native.Nat.{ℕ}
 use native.Mathlib.Omega.{arith}
 use mathlib.Core.Path.{_≡_, refl, sym}
-use mathlib.Core.Bool.{Bool, true, false}
+use mathlib.Core.Bool.{Bool, true, false, cond}
 use mathlib.Core.List.{List}
 use Rattle.log.specs.Records.{Records, systemOf}
 use Rattle.log.specs.Bytes.{Bytes}
@@ -15,8 +15,9 @@ use Rattle.converter.specs.Converting.{conversion}
 use Rattle.converter.proofs.Answered.{told-gives, conversion-most}
 use Rattle.verdict_file.specs.Files.{Verdict, allowed, impossible}
 use Rattle.verdict_file.proofs.Files.{length-impossible, short}
-use Rattle.judge.specs.Judging.{Outcome, refusal, told, verdict, areasFit, Right, JudgesLog, Judges}
-use Rattle.judge.proofs.RightVerdicts.{right-few}
+use Rattle.verdict_file.proofs.Verdicts.{Right}
+use Rattle.judge.specs.Judging.{Outcome, refusal, told, verdict, areasFit, judgementOf, judgement}
+use Rattle.judge.proofs.RightVerdicts.{right-few, judged-right}
 use Rattle.capi.specs.Packing.{RecordedFits, ConvertedFits, JudgedFits}
 
 -- A new count of used bytes is within the longest log, so it fits 32 bits.
@@ -43,18 +44,18 @@ told-fits s r read (allowed ps) right =
 told-fits s r read (impossible event) right = (omega arith, omega (arith, length-impossible event))
 
 -- So do those of what the judge answers to a log that is read.
-log-fits : (s : List ℕ) (l : Log) → readLog s ≡ l → (out : List ℕ) (offset : ℕ) (scratch : List ℕ) (o : Outcome)
-    → JudgesLog l out offset scratch o → JudgedFits (o .answer)
-unfolding JudgesLog refusal verdict
-log-fits s (rejected number) read out offset scratch o h = rw h tt
-log-fits s (accepted r) read out offset scratch o (v, right, same) = rw same (told-fits s r read v right)
+log-fits : (s : List ℕ) (l : Log) → readLog s ≡ l → (out : List ℕ) (offset : ℕ) (scratch : List ℕ)
+    → JudgedFits (judgementOf l out offset scratch .answer)
+unfolding judgementOf refusal verdict
+log-fits s (rejected number) read out offset scratch = tt
+log-fits s (accepted r) read out offset scratch = told-fits s r read _ (judged-right s r read)
 
 -- So do those of every answer of the judge.
 pub judged-fits : (s out : List ℕ) (offset : ℕ) (scratch : List ℕ) (o : Outcome)
-    → Judges s out offset scratch o → JudgedFits (o .answer)
-unfolding Judges refusal
-judged-fits s out offset scratch o h = go (areasFit out offset scratch) refl
+    → o ≡ judgement s out offset scratch → JudgedFits (o .answer)
+unfolding judgement refusal
+judged-fits s out offset scratch o same = rw same (go (areasFit out offset scratch))
   where
-    go : (b : Bool) → areasFit out offset scratch ≡ b → JudgedFits (o .answer)
-    go true e = log-fits s (readLog s) refl out offset scratch o (rw (e, Judges) at h)
-    go false e = let same : o ≡ refusal 1 out scratch = rw (e, Judges) at h in rw same tt
+    go : (b : Bool) → JudgedFits (cond b (judgementOf (readLog s) out offset scratch) (refusal 1 out scratch) .answer)
+    go true = log-fits s (readLog s) refl out offset scratch
+    go false = tt

@@ -8,7 +8,7 @@ use Rattle.recorder.specs.Recording.{Recorded, count, rejected}
 use Rattle.converter.specs.Converting as converting
 use Rattle.replay.specs.Replaying as replaying
 use Rattle.judge.specs.Judging as judging
-use Rattle.judge.specs.Judging.{Judges}
+use Rattle.judge.specs.Judging.{judgement}
 
 -- Bits 8 to 39 are the new count of used bytes.
 abbrev pub packRecorded : Recorded → ℕ
@@ -55,6 +55,6 @@ JudgedFits (judging.refused number) = Unit {0}
 -- The number is the judge's answer, packed, and the two areas are as the judge leaves them.
 pub record JudgesPacked (s out : List ℕ) (offset : ℕ) (scratch : List ℕ) (packed : ℕ) (out' scratch' : List ℕ)
     : Type 0 where
-  pub answer : judging.Answer
-  pub packs : packed ≡ packJudged answer
-  pub judges : Judges s out offset scratch (record { answer = answer; out = out'; scratch = scratch' })
+  pub answer : packed ≡ packJudged (judgement s out offset scratch .answer)
+  pub output : out' ≡ judgement s out offset scratch .out
+  pub area : scratch' ≡ judgement s out offset scratch .scratch

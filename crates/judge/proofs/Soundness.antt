@@ -21,14 +21,15 @@ use Rattle.scratch.proofs.Events.{events-length}
 use Rattle.events.specs.Linking.{logged}
 use Rattle.weighing.specs.Weighing.{Weighable, Finds, Concluded}
 use Rattle.weighing.specs.declared.Weighed.{Weighed}
-use Rattle.judge.specs.Judging.{answerOf, told, Right}
-use Rattle.judge.specs.Issuing.{verdictOf, Issuable, Issued}
+use Rattle.verdict_file.proofs.Verdicts.{Right}
+use Rattle.judge.specs.Judging.{answerOf, told}
+use Rattle.judge.specs.Issuing.{verdictFound, Issuable, Issued}
 use Rattle.judge.specs.declared.Judged.{Judged}
 use Rattle.judge.proofs.RightVerdicts.{shortest-fits}
 
 -- The verdict that was found is right.
 pub concluded-right : {t : topology.Topology} {n : ℕ} {w : List ℕ} (found : Weighed) {w' : List ℕ}
-    → Concluded t n w found w' → Right (topologyOf t) (logged n w) (verdictOf found w')
+    → Concluded t n w found w' → Right (topologyOf t) (logged n w) (verdictFound found w')
 unfolding Right Finds
 concluded-right (Weighed.Allowed steps) done = done .finds
 concluded-right (Weighed.Impossible number) done = done .finds

@@ -13,9 +13,9 @@ use Rattle.judge.specs.Judging.{Answer, refused, answerOf, told}
 use Rattle.judge.specs.declared.Judged.{Judged}
 
 -- The verdict that was found, with the steps that stand in order from SORTED on.
-abbrev pub verdictOf : Weighed → List ℕ → Verdict
-verdictOf (Weighed.Allowed steps) w = allowed (stepsAt SORTED steps w)
-verdictOf (Weighed.Impossible number) w = impossible number
+abbrev pub verdictFound : Weighed → List ℕ → Verdict
+verdictFound (Weighed.Allowed steps) w = allowed (stepsAt SORTED steps w)
+verdictFound (Weighed.Impossible number) w = impossible number
 
 -- The steps that were found are in the area, or the number of the event is a byte.
 unfoldable pub Issuable : Weighed → List ℕ → Type 0

@@ -1,16 +1,14 @@
 -- What the judge answers and leaves (document 01, "Log and verdict bytes" and "Refusals by number").
 use Prim.Native.Nat.{ℕ}
-use mathlib.Core.Path.{_≡_}
-use mathlib.Core.Bool.{Bool, true, false, _&&_}
+use mathlib.Core.Bool.{Bool, cond, _&&_}
 use mathlib.Core.List.{List}
 use lib.Dec.{leb}
 use lib.ListN.{length}
-use Rattle.model.specs.Cxl0.{Topology, Event, FirstImpossible}
-use Rattle.model.specs.Shortest.{Shortest}
 use Rattle.fields.specs.Refusals.{numberOf}
 use Rattle.log.specs.Records.{systemOf}
 use Rattle.log.specs.Reading.{Log, accepted, rejected, readLog}
 use Rattle.verdict_file.specs.Files.{Verdict, allowed, impossible, fileOf}
+use Rattle.verdict_file.specs.Verdicts.{verdictOf}
 use Rattle.fields.specs.Put.{put}
 use Rattle.verdict_file.specs.Writing.{room}
 use Rattle.scratch.specs.Clearing.{zeros}
@@ -55,22 +53,12 @@ verdict v out offset scratch =
 unfoldable pub areasFit : (out : List ℕ) (offset : ℕ) (scratch : List ℕ) → Bool
 areasFit out offset scratch = room out offset && leb 4096 (length scratch)
 
--- A verdict is right for the events of a system: its schedule is their shortest one, or its event is the first
--- impossible one. That leaves one verdict, and one schedule: of two, one has fewer steps or smaller numbers.
-unfoldable pub Right : Topology → List Event → Verdict → Type 0
-Right sys es (allowed ps) = Shortest sys es ps
-Right sys es (impossible event) = FirstImpossible sys es event
-
--- A refused log gets its refusal, an accepted one the right verdict.
-unfoldable pub JudgesLog : Log → (out : List ℕ) (offset : ℕ) (scratch : List ℕ) → Outcome → Type 0
-JudgesLog (rejected number) out offset scratch o = o ≡ refusal number out scratch
-JudgesLog (accepted r) out offset scratch o =
-    (v : Verdict) × Right (systemOf r) (r .events) v × (o ≡ verdict v out offset scratch)
+-- What the judge leaves of a log: a refused one gets its refusal, an accepted one its verdict.
+unfoldable pub judgementOf : Log → (out : List ℕ) (offset : ℕ) (scratch : List ℕ) → Outcome
+judgementOf (rejected number) out offset scratch = refusal number out scratch
+judgementOf (accepted r) out offset scratch = verdict (verdictOf (systemOf r) (r .events)) out offset scratch
 
 -- Areas that are too short give 1 before the log is read.
-unfoldable pub Judges : List ℕ → (out : List ℕ) (offset : ℕ) (scratch : List ℕ) → Outcome → Type 0
-Judges s out offset scratch o =
-    elim (areasFit out offset scratch) [
-      | false ↦ o ≡ refusal 1 out scratch
-      | true ↦ JudgesLog (readLog s) out offset scratch o
-    ]
+unfoldable pub judgement : (s out : List ℕ) (offset : ℕ) (scratch : List ℕ) → Outcome
+judgement s out offset scratch =
+    cond (areasFit out offset scratch) (judgementOf (readLog s) out offset scratch) (refusal 1 out scratch)

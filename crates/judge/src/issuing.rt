@@ -7,7 +7,7 @@ use verdict_file::write_impossible;
 use weighing::Weighed;
 ghost use Rattle.verdict_file.specs.Files.{impossible};
 ghost use Rattle.verdict_file.specs.Writing.{allowedBy};
-ghost use Rattle.judge.specs.Issuing.{verdictOf, Issuable, Issued};
+ghost use Rattle.judge.specs.Issuing.{verdictFound, Issuable, Issued};
 
 // Writes the file that says impossible and tells of it.
 fn issue_impossible(out: &mut [u8], offset: usize, event: u8) -> Judged
@@ -33,7 +33,7 @@ fn issue_allowed(out: &mut [u8], offset: usize, steps: &[u64]) -> Judged
 // Writes the file of the verdict that was found, and tells of it.
 pub(crate) fn issue(found: Weighed, out: &mut [u8], offset: usize, w: &[u64]) -> Judged
     requires { ⌜ Issuable found (now w) ⌝ }
-    ensures { λ r. ⌜ Issued (verdictOf found (now (w .entry))) (now (out .entry)) offset (now (out .exit)) r ⌝ }
+    ensures { λ r. ⌜ Issued (verdictFound found (now (w .entry))) (now (out .entry)) offset (now (out .exit)) r ⌝ }
 {
     match found {
         Weighed::Allowed(steps) => issue_allowed(out, offset, &w[SORTED..SORTED + steps]),

@@ -18,7 +18,7 @@ ghost use mathlib.Core.Bool.{true};
 ghost use Rattle.log.specs.Records.{Records};
 ghost use Rattle.log.specs.Reading.{accepted, readLog};
 ghost use Rattle.log.specs.Answers.{headOf};
-ghost use Rattle.judge.specs.Judging.{areasFit, outcomeOf, JudgesLog, Judges};
+ghost use Rattle.judge.specs.Judging.{areasFit, outcomeOf, judgementOf, judgement};
 
 // Allowed, with the step count and the length of the file; impossible, with the number of the first impossible
 // event and the length; or a refusal.
@@ -32,9 +32,8 @@ pub enum Judged {
 fn decide(log: &[u8], head: Head, out: &mut [u8], offset: usize, scratch: &mut [u64]) -> Judged
     requires { ⌜ areasFit (now out) offset (now scratch) ≡ true ⌝ }
     requires { ⌜ ((r : Records) × (readLog (now log) ≡ accepted r) × (headOf r ≡ head)) ⌝ }
-    ensures { λ r. ⌜ JudgesLog (readLog (now (log .entry)))
-        (now (out .entry)) offset (now (scratch .entry))
-        (outcomeOf r (now (out .exit)) (now (scratch .exit))) ⌝ }
+    ensures { λ r. ⌜ outcomeOf r (now (out .exit)) (now (scratch .exit))
+        ≡ judgementOf (readLog (now (log .entry))) (now (out .entry)) offset (now (scratch .entry)) ⌝ }
 {
     let opened = open(log, head);
     let events = head.events as usize;
@@ -48,8 +47,8 @@ fn decide(log: &[u8], head: Head, out: &mut [u8], offset: usize, scratch: &mut [
 // Judges a log: the verdict file goes to the output from the offset on, and the scratch area is all zero after a
 // verdict. A refusal changes neither.
 pub fn judge(log: &[u8], out: &mut [u8], offset: usize, scratch: &mut [u64]) -> Judged
-    ensures { λ r. ⌜ Judges (now (log .entry)) (now (out .entry)) offset (now (scratch .entry))
-        (outcomeOf r (now (out .exit)) (now (scratch .exit))) ⌝ }
+    ensures { λ r. ⌜ outcomeOf r (now (out .exit)) (now (scratch .exit))
+        ≡ judgement (now (log .entry)) (now (out .entry)) offset (now (scratch .entry)) ⌝ }
 {
     if !has_room(out.len(), offset) {
         return Judged::Refused(Refusal::BufferTooShort);

@@ -33,6 +33,9 @@ pub mod Weaving
 pub mod Steps
 pub mod RunsOf
 pub mod Smallest
+pub mod Pairwise
+pub mod Firsts
+pub mod Explanations
 pub mod Greedy
 pub mod Payments
 pub mod ShortestParts

@@ -1,6 +1,8 @@
 pub mod Cxl0
 pub mod Schedule
 pub mod Shortest
+pub mod Explanations
+pub mod Pairwise
 pub mod Operations
 pub mod Sharers
 pub mod OneLocation

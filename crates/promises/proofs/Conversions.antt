@@ -3,7 +3,7 @@
 use Prim.Native.Nat.{ℕ, _≤_, _<_}
 use mathlib.Core.Path.{_≡_, refl, sym, ap, _∙_}
 use mathlib.Core.Logic.{_↔_}
-use mathlib.Core.Bool.{Bool, true, false}
+use mathlib.Core.Bool.{true}
 use mathlib.Core.List.{List, List·Memᴰ, _++_}
 use lib.ListN.{length, take, drop}
 use lib.Seq.{take-append-seam}
@@ -22,7 +22,7 @@ use Rattle.converter.proofs.Answered.{short-output, enough-output, told-refused
 use Rattle.replay.specs.Replaying.{replayLog}
 use Rattle.replay.proofs.Demand2.{same-replay}
 use Rattle.judge.specs.Judging as judging
-use Rattle.judge.specs.Judging.{Outcome, outcomeOf, areasFit, JudgesLog, Judges}
+use Rattle.judge.specs.Judging.{outcomeOf, areasFit, judgementOf, judgement}
 use Rattle.judge.specs.declared.Judged.{Judged}
 use Rattle.promises.proofs.Judgements
 
@@ -90,21 +90,11 @@ module _ (s t : List ℕ) (r : Records) (b : Bytes s) (read : readLog s ≡ acce
   unfolding systemOf
   form-replayed = same-replay s t r same read form-read refl refl
 
-  -- What is right for one is right for the other, so that the judge's outcomes are the same: answer, file and areas.
-  log-judged : (out : List ℕ) (offset : ℕ) (scratch : List ℕ) (o : Outcome)
-      → JudgesLog (readLog t) out offset scratch o ↔ JudgesLog (readLog s) out offset scratch o
-  unfolding JudgesLog systemOf
-  log-judged out offset scratch o = rw (form-read, read) (λ h. h, λ h. h)
-
-  form-judged : (out : List ℕ) (offset : ℕ) (scratch : List ℕ) (o : Outcome)
-      → Judges t out offset scratch o ↔ Judges s out offset scratch o
-  unfolding Judges
-  form-judged out offset scratch o = go (areasFit out offset scratch) refl
-    where
-      go : (fit : Bool) → areasFit out offset scratch ≡ fit
-          → Judges t out offset scratch o ↔ Judges s out offset scratch o
-      go false e = rw (e, Judges) (λ e. e, λ e. e)
-      go true e = rw (e, Judges) (log-judged out offset scratch o)
+  -- They have the same system and the same events, so that the judge leaves the same: answer, file and areas.
+  form-judged : (out : List ℕ) (offset : ℕ) (scratch : List ℕ)
+      → judgement t out offset scratch ≡ judgement s out offset scratch
+  unfolding judgement judgementOf systemOf
+  form-judged out offset scratch = rw (form-read, read)
 
 -- ---- what was written
 
@@ -137,15 +127,15 @@ module _ (s out : List ℕ) (a : Converted) (out' : List ℕ) (call : Converts s
   pub converted-replayed : (f : List ℕ) → replayLog t f ≡ replayLog s f
   converted-replayed = let (r, read) = log in form-replayed s t r b read form
 
-  pub converted-judged : (area : List ℕ) (offset : ℕ) (scratch : List ℕ) (o : Outcome)
-      → Judges t area offset scratch o ↔ Judges s area offset scratch o
+  pub converted-judged : (area : List ℕ) (offset : ℕ) (scratch : List ℕ)
+      → judgement t area offset scratch ≡ judgement s area offset scratch
   converted-judged = let (r, read) = log in form-judged s t r b read form
 
   -- Two calls of the judge, one for each edition.
   module _ (area : List ℕ) (offset : ℕ) (scratch : List ℕ) (j : Judged) (area' scratch' : List ℕ)
-      (first : Judges s area offset scratch (outcomeOf j area' scratch')) (fit : areasFit area offset scratch ≡ true)
+      (first : outcomeOf j area' scratch' ≡ judgement s area offset scratch) (fit : areasFit area offset scratch ≡ true)
       (room : List ℕ) (at : ℕ) (words : List ℕ) (k : Judged) (room' words' : List ℕ)
-      (second : Judges t room at words (outcomeOf k room' words')) (fits : areasFit room at words ≡ true) where
+      (second : outcomeOf k room' words' ≡ judgement t room at words) (fits : areasFit room at words ≡ true) where
     pub same-answer : judging.answerOf j ≡ judging.answerOf k
     unfolding systemOf
     same-answer =

@@ -1,14 +1,14 @@
 -- What the judge's contract says of its answer and of the areas that it was lent.
 use Prim.Native.Nat.{ℕ, _+_, _-_, _≤_}
 use native.Mathlib.Omega.{arith}
-use mathlib.Core.Path.{_≡_, sym, ap, _∙_, subst₂}
+use mathlib.Core.Path.{_≡_, sym, ap, _∙_}
 use mathlib.Core.Logic.{_↔_}
 use mathlib.Core.Bool.{true, false}
 use mathlib.Core.List.{List, _++_, append-assoc}
 use lib.Dec.{leb→le}
 use lib.ListN.{length, take, drop, length-append}
 use lib.Seq.{take-at, drop-at, length-take-le}
-use Rattle.model.specs.Cxl0.{Topology, Event, Action, Run, HasRun, events, silents}
+use Rattle.model.specs.Cxl0.{Action, Run, HasRun, events, silents}
 use Rattle.model.specs.Schedule.{Step, weave, schedule}
 use Rattle.model.specs.Shortest.{Smaller, Shortest}
 use Rattle.model.proofs.Tests.{true→T}
@@ -16,15 +16,17 @@ use Rattle.log.specs.Records.{Records, systemOf}
 use Rattle.log.specs.Reading.{accepted, rejected, readLog}
 use Rattle.verdict_file.specs.Files.{Verdict, allowed, impossible, fileOf}
 use Rattle.fields.specs.Put.{put}
+use Rattle.verdict_file.specs.Verdicts.{verdictOf}
 use Rattle.verdict_file.specs.Writing.{room}
+use Rattle.verdict_file.proofs.Verdicts.{Right}
 use Rattle.fields.proofs.Put.{put-there}
 use Rattle.replay.specs.Replaying as replaying
 use Rattle.replay.specs.Replaying.{replayLog}
 use Rattle.scratch.specs.Clearing.{zeros}
 use Rattle.judge.specs.Judging.{gives, refused, answerOf, told, Outcome, outcomeOf, refusal, verdict, areasFit}
-use Rattle.judge.specs.Judging.{Right, JudgesLog, Judges}
+use Rattle.judge.specs.Judging.{judgementOf, judgement}
 use Rattle.judge.specs.declared.Judged.{Judged}
-use Rattle.judge.proofs.RightVerdicts.{right-few, right-replays, right-one, judges-one}
+use Rattle.judge.proofs.RightVerdicts.{right-few, right-replays, judged-right}
 use Rattle.judge.proofs.Deciding.{fit-out}
 use Rattle.promises.proofs.Verdicts as verdicts
 
@@ -43,7 +45,7 @@ module _ (l : List ℕ) (at : ℕ) (bytes : List ℕ) (h : at ≤ length l) wher
       (length-append (take at l) bytes ∙ ap (λ (n : ℕ). n + length bytes) (length-take-le at l h))
 
 module _ (s out : List ℕ) (offset : ℕ) (scratch : List ℕ) (j : Judged) (out' scratch' : List ℕ)
-    (judged : Judges s out offset scratch (outcomeOf j out' scratch')) where
+    (judged : outcomeOf j out' scratch' ≡ judgement s out offset scratch) where
   -- A refusal, area by area.
   untouched : (number : ℕ) → outcomeOf j out' scratch' ≡ refusal number out scratch
       → (answerOf j ≡ refused number) × (out' ≡ out) × (scratch' ≡ scratch)
@@ -53,39 +55,37 @@ module _ (s out : List ℕ) (offset : ℕ) (scratch : List ℕ) (j : Judged) (ou
 
   pub judge-short : areasFit out offset scratch ≡ false
       → (answerOf j ≡ refused 1) × (out' ≡ out) × (scratch' ≡ scratch)
-  unfolding Judges
-  judge-short e = untouched 1 (rw (e, Judges) at judged)
+  unfolding judgement
+  judge-short e = untouched 1 (rw e at judged)
 
   module _ (fit : areasFit out offset scratch ≡ true) where
-    by-log : JudgesLog (readLog s) out offset scratch (outcomeOf j out' scratch')
-    unfolding Judges
-    by-log = rw (fit, Judges) at judged
+    by-log : outcomeOf j out' scratch' ≡ judgementOf (readLog s) out offset scratch
+    unfolding judgement
+    by-log = rw fit at judged
 
     pub judge-refused : (number : ℕ) → readLog s ≡ rejected number
         → (answerOf j ≡ refused number) × (out' ≡ out) × (scratch' ≡ scratch)
-    unfolding JudgesLog
+    unfolding judgementOf
     judge-refused number e = untouched number (rw e at by-log)
 
     module _ (r : Records) (read : readLog s ≡ accepted r) where
-      given : (v : Verdict)
-          × Right (systemOf r) (r .events) v
-          × (outcomeOf j out' scratch' ≡ verdict v out offset scratch)
-      unfolding JudgesLog
-      given = rw read at by-log
-
       abbrev v : Verdict
-      v = given .0
+      v = verdictOf (systemOf r) (r .events)
 
       right : Right (systemOf r) (r .events) v
-      right = given .1
+      right = judged-right s r read
+
+      given : outcomeOf j out' scratch' ≡ verdict v out offset scratch
+      unfolding judgementOf
+      given = rw read at by-log
 
       says : answerOf j ≡ told v
       unfolding verdict
-      says = ap (λ (o : Outcome). o .answer) (given .2)
+      says = ap (λ (o : Outcome). o .answer) given
 
       file : out' ≡ put out offset (fileOf v)
       unfolding verdict
-      file = ap (λ (o : Outcome). o .out) (given .2)
+      file = ap (λ (o : Outcome). o .out) given
 
       inside : offset ≤ length out
       unfolding room
@@ -101,20 +101,18 @@ module _ (s out : List ℕ) (offset : ℕ) (scratch : List ℕ) (j : Judged) (ou
       abbrev from-offset : ℕ → List ℕ
       from-offset n = take n (drop offset out')
 
-      pub judge-writes : (v : Verdict)
-          × (answerOf j ≡ told v)
+      pub judge-writes : (answerOf j ≡ told v)
           × (take (length (fileOf v)) (drop offset out') ≡ fileOf v)
           × (take offset out' ≡ take offset out)
           × (drop (offset + length (fileOf v)) out' ≡ drop (offset + length (fileOf v)) out)
           × (scratch' ≡ zeros (length scratch))
       unfolding verdict
       judge-writes = (
-        v,
         says,
         stands,
         ap (take offset) file ∙ put-before out offset (fileOf v) inside,
         ap (drop (offset + length (fileOf v))) file ∙ put-after out offset (fileOf v) inside,
-        ap (λ (o : Outcome). o .scratch) (given .2),
+        ap (λ (o : Outcome). o .scratch) given,
       )
 
       pub allowed-exactly : ((steps len : ℕ) × (answerOf j ≡ gives 1 0 steps len)) ↔ HasRun (systemOf r) (r .events)
@@ -180,10 +178,10 @@ module _ (s out : List ℕ) (offset : ℕ) (scratch : List ℕ) (j : Judged) (ou
 -- Two calls for logs of the same system with the same events, each with areas that fit: the verdict is the same, so the
 -- answers are, and the files.
 module _ (s out : List ℕ) (offset : ℕ) (scratch : List ℕ) (j : Judged) (out' scratch' : List ℕ)
-    (first : Judges s out offset scratch (outcomeOf j out' scratch')) (fit : areasFit out offset scratch ≡ true)
+    (first : outcomeOf j out' scratch' ≡ judgement s out offset scratch) (fit : areasFit out offset scratch ≡ true)
     (r : Records) (read : readLog s ≡ accepted r)
     (t room : List ℕ) (at : ℕ) (words : List ℕ) (k : Judged) (room' words' : List ℕ)
-    (second : Judges t room at words (outcomeOf k room' words')) (fits : areasFit room at words ≡ true)
+    (second : outcomeOf k room' words' ≡ judgement t room at words) (fits : areasFit room at words ≡ true)
     (q : Records) (reads : readLog t ≡ accepted q)
     (system : systemOf q ≡ systemOf r) (all : q .events ≡ r .events) where
   abbrev v₁ : Verdict
@@ -193,11 +191,7 @@ module _ (s out : List ℕ) (offset : ℕ) (scratch : List ℕ) (j : Judged) (ou
   v₂ = v t room at words k room' words' second fits q reads
 
   same-verdict : v₁ ≡ v₂
-  same-verdict =
-      right-one (systemOf r) (r .events) v₁ v₂
-      (right s out offset scratch j out' scratch' first fit r read)
-      (subst₂ (λ (sys : Topology) (es : List Event). Right sys es v₂) system all
-      (right t room at words k room' words' second fits q reads))
+  same-verdict = rw (system, all)
 
   pub same-answer : answerOf j ≡ answerOf k
   same-answer =
@@ -216,9 +210,9 @@ module _ (s out : List ℕ) (offset : ℕ) (scratch : List ℕ) (j : Judged) (ou
 
 -- Two calls for the same log and the same areas leave the same.
 pub judge-one : (s out : List ℕ) (offset : ℕ) (scratch : List ℕ) (j k : Judged) (out' scratch' out'' scratch'' : List ℕ)
-    → Judges s out offset scratch (outcomeOf j out' scratch')
-    → Judges s out offset scratch (outcomeOf k out'' scratch'')
+    → outcomeOf j out' scratch' ≡ judgement s out offset scratch
+    → outcomeOf k out'' scratch'' ≡ judgement s out offset scratch
     → (answerOf j ≡ answerOf k) × (out' ≡ out'') × (scratch' ≡ scratch'')
 judge-one s out offset scratch j k out' scratch' out'' scratch'' first second =
-    let same = judges-one s out offset scratch (outcomeOf j out' scratch') (outcomeOf k out'' scratch'') first second in
+    let same = first ∙ sym second in
     (ap (λ (o : Outcome). o .answer) same, ap (λ (o : Outcome). o .out) same, ap (λ (o : Outcome). o .scratch) same)

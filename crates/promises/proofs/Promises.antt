@@ -36,15 +36,15 @@ use Rattle.converter.specs.Values.{values}
 use Rattle.converter.specs.Converting as converting
 use Rattle.converter.specs.Converting.{other, inEdition, Converts}
 use Rattle.converter.specs.declared.Converted.{Converted}
-use Rattle.verdict_file.specs.Files.{Verdict, allowed, impossible, fileOf}
+use Rattle.verdict_file.specs.Files.{allowed, impossible, fileOf}
+use Rattle.verdict_file.specs.Verdicts.{verdictOf}
 use Rattle.replay.specs.Replaying as replaying
 use Rattle.replay.specs.Replaying.{Stops, Admitted, replayLog}
 use Rattle.replay.specs.Answers as replay
 use Rattle.replay.specs.declared.Replayed.{Replayed}
 use Rattle.replay.proofs.Demand2
 use Rattle.scratch.specs.Clearing.{zeros}
-use Rattle.judge.specs.Judging as judging
-use Rattle.judge.specs.Judging.{Answer, gives, refused, answerOf, outcomeOf, told, areasFit, Judges}
+use Rattle.judge.specs.Judging.{Answer, gives, refused, answerOf, outcomeOf, told, areasFit, judgement}
 use Rattle.judge.specs.declared.Judged.{Judged}
 use Rattle.promises.proofs.Readings
 use Rattle.promises.proofs.Recordings
@@ -156,7 +156,7 @@ module _ (s out : List ℕ) (a : Converted) (out' : List ℕ) (call : Converts s
 
 -- What `judge` answered, and the areas afterwards, as its contract ensures them.
 module _ (s out : List ℕ) (offset : ℕ) (scratch : List ℕ) (j : Judged) (out' scratch' : List ℕ)
-    (judged : Judges s out offset scratch (outcomeOf j out' scratch')) where
+    (judged : outcomeOf j out' scratch' ≡ judgement s out offset scratch) where
   -- Areas that are too short give 1, whatever the log, and both stay as they were.
   pub judge-short : areasFit out offset scratch ≡ false
       → (answerOf j ≡ refused 1) × (out' ≡ out) × (scratch' ≡ scratch)
@@ -170,10 +170,10 @@ module _ (s out : List ℕ) (offset : ℕ) (scratch : List ℕ) (j : Judged) (ou
 
     -- Every accepted log gets a verdict.
     module _ (r : Records) (read : readLog s ≡ accepted r) where
-      -- The answer is that of the verdict whose file was written from the offset on; the rest of the output is as it
-      -- was, and the scratch area is all zero.
-      pub judge-writes : (v : Verdict)
-          × (answerOf j ≡ told v)
+      -- The answer is that of the verdict on its events, whose file was written from the offset on; the rest of the
+      -- output is as it was, and the scratch area is all zero.
+      pub judge-writes : let v = verdictOf (systemOf r) (r .events) in
+          (answerOf j ≡ told v)
           × (take (length (fileOf v)) (drop offset out') ≡ fileOf v)
           × (take offset out' ≡ take offset out)
           × (drop (offset + length (fileOf v)) out' ≡ drop (offset + length (fileOf v)) out)
@@ -211,8 +211,8 @@ module _ (s out : List ℕ) (a : Converted) (out' : List ℕ) (call : Converts s
   converted-replayed = Conversions.converted-replayed s out a out' call b len converted
 
   -- and so does the judge: its outcome for the one is its outcome for the other.
-  pub converted-judged : (area : List ℕ) (offset : ℕ) (scratch : List ℕ) (o : judging.Outcome)
-      → Judges (take len out') area offset scratch o ↔ Judges s area offset scratch o
+  pub converted-judged : (area : List ℕ) (offset : ℕ) (scratch : List ℕ)
+      → judgement (take len out') area offset scratch ≡ judgement s area offset scratch
   converted-judged = Conversions.converted-judged s out a out' call b len converted
 
 -- What `replay` answered, as its contract ensures it.
@@ -269,7 +269,7 @@ module _ (s f : List ℕ) (a : Replayed) (replayed : replay.answerOf a ≡ repla
 
 -- What `judge` answered to an accepted log, with areas that fit.
 module _ (s out : List ℕ) (offset : ℕ) (scratch : List ℕ) (j : Judged) (out' scratch' : List ℕ)
-    (judged : Judges s out offset scratch (outcomeOf j out' scratch')) (fit : areasFit out offset scratch ≡ true)
+    (judged : outcomeOf j out' scratch' ≡ judgement s out offset scratch) (fit : areasFit out offset scratch ≡ true)
     (r : Records) (read : readLog s ≡ accepted r) where
   -- Allowed exactly when some choice of silent steps, any number, anywhere, makes a run of all events.
   pub allowed-exactly : ((steps len : ℕ) × (answerOf j ≡ gives 1 0 steps len)) ↔ HasRun (systemOf r) (r .events)
@@ -347,8 +347,8 @@ module _ (s out : List ℕ) (offset : ℕ) (scratch : List ℕ) (j : Judged) (ou
 -- So nothing is left to the program: two calls of `judge` on the same log, with areas of the same contents, give the
 -- same answer and leave the same bytes.
 pub judge-one : (s out : List ℕ) (offset : ℕ) (scratch : List ℕ) (j k : Judged) (out' scratch' out'' scratch'' : List ℕ)
-    → Judges s out offset scratch (outcomeOf j out' scratch')
-    → Judges s out offset scratch (outcomeOf k out'' scratch'')
+    → outcomeOf j out' scratch' ≡ judgement s out offset scratch
+    → outcomeOf k out'' scratch'' ≡ judgement s out offset scratch
     → (answerOf j ≡ answerOf k) × (out' ≡ out'') × (scratch' ≡ scratch'')
 judge-one = Judgements.judge-one
 
@@ -356,9 +356,9 @@ judge-one = Judgements.judge-one
 module _ (s out : List ℕ) (a : Converted) (out' : List ℕ) (call : Converts s out a out') (b : Bytes s) (len : ℕ)
     (converted : converting.answerOf a ≡ converting.gives len)
     (area : List ℕ) (offset : ℕ) (scratch : List ℕ) (j : Judged) (area' scratch' : List ℕ)
-    (first : Judges s area offset scratch (outcomeOf j area' scratch')) (fit : areasFit area offset scratch ≡ true)
+    (first : outcomeOf j area' scratch' ≡ judgement s area offset scratch) (fit : areasFit area offset scratch ≡ true)
     (room : List ℕ) (at : ℕ) (words : List ℕ) (k : Judged) (room' words' : List ℕ)
-    (second : Judges (take len out') room at words (outcomeOf k room' words'))
+    (second : outcomeOf k room' words' ≡ judgement (take len out') room at words)
     (fits : areasFit room at words ≡ true) where
   -- The answer is the same in both editions, and so are the bytes of the file, wherever it was put.
   pub same-answer : answerOf j ≡ answerOf k

@@ -11,8 +11,8 @@ use Rattle.model.proofs.Prefixes.{has-run-prefix, has-run-fewer}
 use Rattle.log.specs.Records.{Records}
 use Rattle.log.specs.Reading.{Log, accepted, rejected}
 use Rattle.verdict_file.specs.Files.{Verdict, allowed, impossible, fileOf}
-use Rattle.judge.specs.Judging.{Answer, gives, refused, told, Right}
-use Rattle.judge.proofs.RightVerdicts.{right-runs}
+use Rattle.verdict_file.proofs.Verdicts.{Right, right-runs}
+use Rattle.judge.specs.Judging.{Answer, gives, refused, told}
 
 -- The numbers that an answer gives.
 abbrev verdictOf : Answer → ℕ

@@ -11,7 +11,7 @@ use Rattle.cursors.specs.Opening.{Opens}
 use Rattle.cursors.proofs.Opens.{opens-accepted}
 use Rattle.scratch.specs.Clearing.{zeros}
 use Rattle.weighing.specs.Weighing.{Weighable}
-use Rattle.judge.specs.Issuing.{verdictOf}
+use Rattle.judge.specs.Issuing.{verdictFound}
 use Rattle.judge.proofs.Loading.{few-events, loadable, loads-weighable, loads-right}
 use Rattle.judge.proofs.Soundness.{concluded-right, concluded-issuable, right-issued}
 use Rattle.judge.proofs.Deciding.{fit-out, fit-scratch, decided}
@@ -98,7 +98,7 @@ returns c =
     let (fit, log-read) = start k .pre in
     let (r, read, heads) = log-read in
     let loads = d .load .ensures in
-    let found = verdictOf (g .weigh .result) (g .weigh .last .0) in
+    let found = verdictFound (g .weigh .result) (g .weigh .last .0) in
     let right = concluded-right (g .weigh .result) (g .weigh .ensures) in
     let fits = fit-out (now (a .out)) (a .offset) (now (a .scratch)) fit in
     let issued = right-issued (weighable d) (few d) found right fits (i .issue .ensures) in

@@ -1,0 +1,11 @@
+-- The verdict on the events of a system: allowed, with their first explanation, or impossible from the first event on
+-- that makes an end to explanations.
+use mathlib.Core.List.{List}
+use mathlib.Core.Option.{none, some}
+use Rattle.model.specs.Cxl0.{Topology, Event}
+use Rattle.model.specs.Explanations.{explanation, firstUnexplained}
+use Rattle.verdict_file.specs.Files.{Verdict, allowed, impossible}
+
+unfoldable pub verdictOf : Topology → List Event → Verdict
+verdictOf sys es =
+    elim (explanation sys es) [ none ↦ impossible (firstUnexplained sys es) | some ps ↦ allowed ps ]
