@@ -83,12 +83,12 @@ class Tree:
         file, found = self.file(path), set()
         for word in WORD.findall(LABEL.sub("", text)):
             head, _, rest = word.partition(".")
-            if word in file.of:
-                found.add(("definition", path, file.of[word]))
-            elif word in file.names:
-                found.add(self.meant(*file.names[word]))
-            elif f"_{word}_" in file.names:
-                found.add(self.meant(*file.names[f"_{word}_"]))
+            # `a ← l` in a `do` block is a use of `_>>=_`
+            operator = "_>>=_" if word == "←" else f"_{word}_"
+            if word in file.of or operator in file.of:
+                found.add(("definition", path, file.of.get(word) or file.of[operator]))
+            elif word in file.names or operator in file.names:
+                found.add(self.meant(*(file.names.get(word) or file.names[operator])))
             elif rest and head in file.modules:
                 found.add(self.meant(file.modules[head], rest.split(".")[-1]))
             elif rest and head in file.names:

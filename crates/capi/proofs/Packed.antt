@@ -1,17 +1,18 @@
--- The judge's answer, packed, and what it leaves.
+-- The judge's answer, packed, and what it leaves in each area.
 use Prim.Native.Nat.{ℕ}
 use mathlib.Core.Path.{_≡_, ap, _∙_}
 use mathlib.Core.List.{List}
 use Rattle.judge.specs.Judging.{Outcome, answerOf, outcomeOf, judgement}
 use Rattle.judge.specs.declared.Judged.{Judged}
-use Rattle.capi.specs.Packing.{packJudged, JudgesPacked}
+use Rattle.capi.specs.Packing.{packJudged}
 
-pub judges-packed : {s out : List ℕ} {offset : ℕ} {scratch : List ℕ} (j : Judged) {out' scratch' : List ℕ} {packed : ℕ}
+pub judged-packed : {s out : List ℕ} {offset : ℕ} {scratch : List ℕ} (j : Judged) {out' scratch' : List ℕ} {packed : ℕ}
     → outcomeOf j out' scratch' ≡ judgement s out offset scratch → packed ≡ packJudged (answerOf j)
-    → JudgesPacked s out offset scratch packed out' scratch'
-judges-packed j same packs =
-    record {
-      answer = packs ∙ ap (λ (o : Outcome). packJudged (o .answer)) same;
-      output = ap (λ (o : Outcome). o .out) same;
-      area = ap (λ (o : Outcome). o .scratch) same;
-    }
+    → (packed ≡ packJudged (judgement s out offset scratch .answer))
+    × (out' ≡ judgement s out offset scratch .out)
+    × (scratch' ≡ judgement s out offset scratch .scratch)
+judged-packed j same packs = (
+  packs ∙ ap (λ (o : Outcome). packJudged (o .answer)) same,
+  ap (λ (o : Outcome). o .out) same,
+  ap (λ (o : Outcome). o .scratch) same,
+)

@@ -1,14 +1,11 @@
 -- The answers of the calls on logs, each as one number of 64 bits. Bits 0 to 7 are the number of a refusal, or 0
 -- if there is none, and a refusal leaves all other bits 0. Bits that are not named are 0.
 use Prim.Native.Nat.{ℕ, _+_, _*_, _^_, _<_}
-use mathlib.Core.Path.{_≡_}
-use mathlib.Core.List.{List}
 use Rattle.reader.specs.Answers.{Summary, holds, refused}
 use Rattle.recorder.specs.Recording.{Recorded, count, rejected}
 use Rattle.converter.specs.Converting as converting
 use Rattle.replay.specs.Replaying as replaying
 use Rattle.judge.specs.Judging as judging
-use Rattle.judge.specs.Judging.{judgement}
 
 -- Bits 8 to 39 are the new count of used bytes.
 abbrev pub packRecorded : Recorded → ℕ
@@ -51,10 +48,3 @@ ConvertedFits (converting.Answer.refused number) = Unit {0}
 abbrev pub JudgedFits : judging.Answer → Type 0
 JudgedFits (judging.gives verdict event steps len) = (steps < 2 ^ 16) × (len < 2 ^ 16)
 JudgedFits (judging.refused number) = Unit {0}
-
--- The number is the judge's answer, packed, and the two areas are as the judge leaves them.
-pub record JudgesPacked (s out : List ℕ) (offset : ℕ) (scratch : List ℕ) (packed : ℕ) (out' scratch' : List ℕ)
-    : Type 0 where
-  pub answer : packed ≡ packJudged (judgement s out offset scratch .answer)
-  pub output : out' ≡ judgement s out offset scratch .out
-  pub area : scratch' ≡ judgement s out offset scratch .scratch

@@ -20,7 +20,8 @@ ghost use Rattle.recorder.specs.Recording.{recorded, written};
 ghost use Rattle.converter.specs.Converting as converting;
 ghost use Rattle.converter.specs.Converting.{conversion, told};
 ghost use Rattle.replay.specs.Replaying.{replayLog};
-ghost use Rattle.capi.specs.Packing.{packRecorded, packSummary, packConverted, packReplayed, JudgesPacked};
+ghost use Rattle.judge.specs.Judging.{judgement};
+ghost use Rattle.capi.specs.Packing.{packRecorded, packSummary, packConverted, packReplayed, packJudged};
 ghost use Rattle.capi.specs.Version.{requests, packVersion};
 
 // Puts one field after the used bytes of a buffer. No other byte changes; on a refusal none does.
@@ -64,8 +65,12 @@ pub extern "C" fn cxl0_replay(log: &[u8], schedule: &[u8]) -> u64
 // a verdict. A refusal changes neither.
 #[no_mangle]
 pub extern "C" fn cxl0_judge(log: &[u8], out: &mut [u8], offset: usize, scratch: &mut [u64]) -> u64
-    ensures { λ r. ⌜ JudgesPacked (now (log .entry)) (now (out .entry)) offset (now (scratch .entry))
-        r (now (out .exit)) (now (scratch .exit)) ⌝ }
+    ensures { λ r. ⌜ r ≡ packJudged (judgement
+        (now (log .entry)) (now (out .entry)) offset (now (scratch .entry)) .answer) ⌝ }
+    ensures { λ r. ⌜ now (out .exit) ≡ judgement
+        (now (log .entry)) (now (out .entry)) offset (now (scratch .entry)) .out ⌝ }
+    ensures { λ r. ⌜ now (scratch .exit) ≡ judgement
+        (now (log .entry)) (now (out .entry)) offset (now (scratch .entry)) .scratch ⌝ }
 {
     pack_judged(judge(log, out, offset, scratch))
 }

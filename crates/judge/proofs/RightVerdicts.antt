@@ -1,17 +1,17 @@
 -- What the right verdict is worth: its schedule fits the events and makes a run of them, so that replay of the log with
 -- its file says yes.
-use Prim.Native.Nat.{ℕ, _≤_, _<_}
+use Prim.Native.Nat.{ℕ, _+_, _*_, _≤_}
 use native.Mathlib.Omega.{arith}
 use mathlib.Core.Path.{_≡_, _∙_}
 use mathlib.Core.Bool.{_&&_}
 use mathlib.Core.List.{List}
 use lib.Dec.{T, leb, le→leb}
 use lib.ListN.{length}
-use Rattle.model.specs.Cxl0.{Topology, WellFormed, Event}
+use Rattle.model.specs.Cxl0.{Topology, WellFormed, Event, count, isStore, isLoad}
 use Rattle.model.specs.Schedule.{Step, weave, inOrder}
 use Rattle.model.specs.Shortest.{Shortest}
 use Rattle.model.proofs.Tests.{and-i}
-use Rattle.model.proofs.Bound.{bound-256}
+use Rattle.model.proofs.Bound.{bound, bound-256}
 use Rattle.model.proofs.Weaving.{events-weave}
 use Rattle.model.proofs.Smallest.{length-weaveFrom}
 use Rattle.log.specs.Records.{Records, systemOf}
@@ -28,13 +28,21 @@ use Rattle.replay.proofs.Demand2.{written-yes}
 
 -- ---- the schedule
 
+-- The shortest schedule has at most two steps for each store and one for each load.
+pub shortest-bound : (sys : Topology) → WellFormed sys → (es : List Event) (ps : List Step) → Shortest sys es ps
+    → length ps ≤ 2 * count isStore es + count isLoad es
+unfolding weave
+shortest-bound sys w es ps s =
+    let most = rw (events-weave es ps) at (bound sys w (weave es ps) (s .run)) in
+    omega (arith, most, length-weaveFrom 0 es ps)
+
 module _ (sys : Topology) (w : WellFormed sys) (es : List Event) (few : length es ≤ eventsMost) where
-  -- The shortest schedule of as many events as a log has at most 256 steps.
+  -- That of as many events as a log has at most 256 steps.
   pub shortest-few : (ps : List Step) → Shortest sys es ps → length ps ≤ stepsMost
   unfolding weave
   shortest-few ps s =
-      let bound = bound-256 sys w (weave es ps) (s .run) (rw (events-weave es ps) few) in
-      omega (arith, bound, length-weaveFrom 0 es ps)
+      let most = bound-256 sys w (weave es ps) (s .run) (rw (events-weave es ps) few) in
+      omega (arith, most, length-weaveFrom 0 es ps)
 
   -- It fits the events.
   pub shortest-fits : (ps : List Step) → Shortest sys es ps → T (scheduleFits sys (length es) ps)
@@ -48,7 +56,12 @@ module _ (sys : Topology) (w : WellFormed sys) (es : List Event) (few : length e
 
 module _ (s : List ℕ) (r : Records) (read : readLog s ≡ accepted r) (ps : List Step)
     (right : Right (systemOf r) (r .events) (allowed ps)) where
-  -- The right schedule of an accepted log has at most 256 steps.
+  -- The right schedule of an accepted log has at most two steps for each store and one for each load,
+  pub right-bound : length ps ≤ 2 * count isStore (r .events) + count isLoad (r .events)
+  unfolding Right
+  right-bound = shortest-bound (systemOf r) (accepted-wellFormed s r read) (r .events) ps right
+
+  -- and so at most 256.
   pub right-few : length ps ≤ stepsMost
   unfolding Right
   right-few = shortest-few (systemOf r) (accepted-wellFormed s r read) (r .events) (accepted-few s r read) ps right

@@ -53,12 +53,13 @@ verdict v out offset scratch =
 unfoldable pub areasFit : (out : List ℕ) (offset : ℕ) (scratch : List ℕ) → Bool
 areasFit out offset scratch = room out offset && leb 4096 (length scratch)
 
--- What the judge leaves of a log: a refused one gets its refusal, an accepted one its verdict.
+-- What the judge answers and leaves, with areas that fit, by what the log is read as: its refusal, or the verdict on its
+-- events.
 unfoldable pub judgementOf : Log → (out : List ℕ) (offset : ℕ) (scratch : List ℕ) → Outcome
 judgementOf (rejected number) out offset scratch = refusal number out scratch
 judgementOf (accepted r) out offset scratch = verdict (verdictOf (systemOf r) (r .events)) out offset scratch
 
--- Areas that are too short give 1 before the log is read.
+-- What the judge answers and leaves. Areas that are too short give 1, whatever the log.
 unfoldable pub judgement : (s out : List ℕ) (offset : ℕ) (scratch : List ℕ) → Outcome
 judgement s out offset scratch =
     cond (areasFit out offset scratch) (judgementOf (readLog s) out offset scratch) (refusal 1 out scratch)

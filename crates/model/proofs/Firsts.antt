@@ -1,4 +1,5 @@
--- The first member of a list that passes a test, where the list is in order: every member is before those after it.
+-- The numbers below n, and the first member of a list that passes a test. In a list in order it comes before every
+-- other member that passes.
 use Prim.Native.Nat.{ℕ, zero, suc, _<_}
 use native.Mathlib.Omega.{arith}
 use mathlib.Core.Path.{_≡_, refl, sym, ap, _∙_, subst}
@@ -16,6 +17,7 @@ use Rattle.model.proofs.Pairwise.{pairwise-map}
 
 -- ---- the numbers below n
 
+-- They are exactly the numbers below n,
 pub mem-below : (n j : ℕ) → j < n → List·Memᴰ j (below n)
 unfolding below
 mem-below zero j h = absurd (omega arith)
@@ -32,25 +34,24 @@ of-below (suc n) j m =
     (λ i. let (k, at, e) = Memᴰ·of-map suc (below n) i in omega (arith, later k at, e))
     (List·Memᴰ·cases-cons m)
 
-abbrev pub Below : ℕ → ℕ → Type 0
-Below i j = i < j
-
-pub pairwise-below : (n : ℕ) → Pairwise Below (below n)
+-- and each is less than those behind it.
+pub pairwise-below : (n : ℕ) → Pairwise _<_ (below n)
 unfolding Pairwise below
 pairwise-below zero = tt
 pairwise-below (suc n) = (
   λ b i. let (k, at, e) = Memᴰ·of-map suc (below n) i in omega (arith, e),
-  pairwise-map Below Below suc (below n) (pairwise-below n) (λ i j h. omega arith),
+  pairwise-map _<_ _<_ suc (below n) (pairwise-below n) (λ i j h. omega arith),
 )
 
--- ---- the first one
+-- ---- the first member that passes a test
 
--- It is in the list and passes the test, and every other member that does is after it.
+-- It is a member and passes, and every other member that passes comes after it.
 pub record First {A : Type 0} (R : A → A → Type 0) (test : A → Bool) (l : List A) (a : A) : Type 0 where
   pub member : List·Memᴰ a l
   pub passes : T (test a)
   pub others : (b : A) → List·Memᴰ b l → T (test b) → (b ≡ a) ⊎ R a b
 
+-- What `first` gives is that member.
 pub first-some : {A : Type 0} (R : A → A → Type 0) (test : A → Bool) (l : List A) (a : A) → Pairwise R l
     → first test l ≡ some a → First R test l a
 unfolding Pairwise first
@@ -80,6 +81,7 @@ first-some {A} R test (c ∷ l) a p e = go (test c) refl (first-some R test l a 
               (List·Memᴰ·cases-cons m);
         }
 
+-- Where it gives none, no member passes.
 pub first-none : {A : Type 0} (test : A → Bool) (l : List A) → first test l ≡ none
     → (b : A) → List·Memᴰ b l → ¬ T (test b)
 unfolding first

@@ -1,4 +1,5 @@
 pub mod Shortcuts
+pub mod Examples
 pub mod Tests
 pub mod Machines
 pub mod Sharers
@@ -35,6 +36,7 @@ pub mod RunsOf
 pub mod Smallest
 pub mod Pairwise
 pub mod Firsts
+pub mod ListedSchedules
 pub mod Explanations
 pub mod Greedy
 pub mod Payments

@@ -1,5 +1,5 @@
 -- What the judge's contract says of its answer and of the areas that it was lent.
-use Prim.Native.Nat.{ℕ, _+_, _-_, _≤_}
+use Prim.Native.Nat.{ℕ, _+_, _*_, _-_, _≤_}
 use native.Mathlib.Omega.{arith}
 use mathlib.Core.Path.{_≡_, sym, ap, _∙_}
 use mathlib.Core.Logic.{_↔_}
@@ -8,7 +8,7 @@ use mathlib.Core.List.{List, _++_, append-assoc}
 use lib.Dec.{leb→le}
 use lib.ListN.{length, take, drop, length-append}
 use lib.Seq.{take-at, drop-at, length-take-le}
-use Rattle.model.specs.Cxl0.{Action, Run, HasRun, events, silents}
+use Rattle.model.specs.Cxl0.{Action, Run, HasRun, events, silents, count, isStore, isLoad}
 use Rattle.model.specs.Schedule.{Step, weave, schedule}
 use Rattle.model.specs.Shortest.{Smaller, Shortest}
 use Rattle.model.proofs.Tests.{true→T}
@@ -26,7 +26,7 @@ use Rattle.scratch.specs.Clearing.{zeros}
 use Rattle.judge.specs.Judging.{gives, refused, answerOf, told, Outcome, outcomeOf, refusal, verdict, areasFit}
 use Rattle.judge.specs.Judging.{judgementOf, judgement}
 use Rattle.judge.specs.declared.Judged.{Judged}
-use Rattle.judge.proofs.RightVerdicts.{right-few, right-replays, judged-right}
+use Rattle.judge.proofs.RightVerdicts.{right-bound, right-few, right-replays, judged-right}
 use Rattle.judge.proofs.Deciding.{fit-out}
 use Rattle.promises.proofs.Verdicts as verdicts
 
@@ -147,6 +147,9 @@ module _ (s out : List ℕ) (offset : ℕ) (scratch : List ℕ) (j : Judged) (ou
           found .2,
           omega (arith, found .2, right-few s r read (found .0) right-steps),
         )
+
+        pub step-bound : steps ≤ 2 * count isStore (r .events) + count isLoad (r .events)
+        step-bound = omega (arith, found .2, right-bound s r read (found .0) right-steps)
 
         -- The steps are the shortest schedule.
         shortest : Shortest (systemOf r) (r .events) (found .0)

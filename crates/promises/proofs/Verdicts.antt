@@ -15,42 +15,42 @@ use Rattle.verdict_file.proofs.Verdicts.{Right, right-runs}
 use Rattle.judge.specs.Judging.{Answer, gives, refused, told}
 
 -- The numbers that an answer gives.
-abbrev verdictOf : Answer → ℕ
-verdictOf (gives v e steps len) = v
-verdictOf (refused number) = 0
+abbrev given-verdict : Answer → ℕ
+given-verdict (gives v e steps len) = v
+given-verdict (refused number) = 0
 
-abbrev eventOf : Answer → ℕ
-eventOf (gives v e steps len) = e
-eventOf (refused number) = 0
+abbrev given-event : Answer → ℕ
+given-event (gives v e steps len) = e
+given-event (refused number) = 0
 
-abbrev stepsOf : Answer → ℕ
-stepsOf (gives v e steps len) = steps
-stepsOf (refused number) = 0
+abbrev given-steps : Answer → ℕ
+given-steps (gives v e steps len) = steps
+given-steps (refused number) = 0
 
-abbrev lengthOf : Answer → ℕ
-lengthOf (gives v e steps len) = len
-lengthOf (refused number) = 0
+abbrev given-length : Answer → ℕ
+given-length (gives v e steps len) = len
+given-length (refused number) = 0
 
 -- An answer that tells of an allowed verdict gives the number of its steps and the length of its file; so for
 -- an impossible one.
 pub told-allowed : (v : Verdict) {steps len : ℕ} → told v ≡ gives 1 0 steps len
     → (ps : List Step) × (v ≡ allowed ps) × (length ps ≡ steps) × (length (fileOf v) ≡ len)
 unfolding told
-told-allowed (allowed ps) t = (ps, refl, ap stepsOf t, ap lengthOf t)
-told-allowed (impossible e) t = absurd (omega (arith, ap verdictOf t))
+told-allowed (allowed ps) t = (ps, refl, ap given-steps t, ap given-length t)
+told-allowed (impossible e) t = absurd (omega (arith, ap given-verdict t))
 
 pub told-impossible : (v : Verdict) {e len : ℕ} → told v ≡ gives 0 e 0 len
     → (v ≡ impossible e) × (length (fileOf v) ≡ len)
 unfolding told
-told-impossible (allowed ps) t = absurd (omega (arith, ap verdictOf t))
-told-impossible (impossible d) t = (ap impossible (ap eventOf t), ap lengthOf t)
+told-impossible (allowed ps) t = absurd (omega (arith, ap given-verdict t))
+told-impossible (impossible d) t = (ap impossible (ap given-event t), ap given-length t)
 
 -- In either case the answer gives the length of the file.
 pub told-length : (v : Verdict) {verdict event steps len : ℕ} → told v ≡ gives verdict event steps len
     → length (fileOf v) ≡ len
 unfolding told
-told-length (allowed ps) t = ap lengthOf t
-told-length (impossible e) t = ap lengthOf t
+told-length (allowed ps) t = ap given-length t
+told-length (impossible e) t = ap given-length t
 
 -- Two accepted readings of a log have the same records.
 pub same-records : {r q : Records} → accepted r ≡ accepted q → r ≡ q
@@ -88,7 +88,7 @@ module _ (sys : Topology) (es : List Event) where
   allowed-exactly (allowed ps) right =
       (λ t. right-runs sys es ps right, λ run. (length ps, length (fileOf (allowed ps)), refl))
   allowed-exactly (impossible e) right = (
-    λ t. absurd (omega (arith, ap verdictOf (t .2))),
+    λ t. absurd (omega (arith, ap given-verdict (t .2))),
     λ run. absurd (ends-none e (first-ends e right) run),
   )
 
@@ -97,11 +97,11 @@ module _ (sys : Topology) (es : List Event) where
       → ((len : ℕ) × (told v ≡ gives 0 e 0 len)) ↔ EndsAt e
   unfolding told Right
   impossible-exactly (allowed ps) right e = (
-    λ t. absurd (omega (arith, ap verdictOf (t .1))),
+    λ t. absurd (omega (arith, ap given-verdict (t .1))),
     λ ends. absurd (ends-none e ends (right-runs sys es ps right)),
   )
   impossible-exactly (impossible d) right e = (
-    λ t. subst EndsAt (ap eventOf (t .1)) (first-ends d right),
+    λ t. subst EndsAt (ap given-event (t .1)) (first-ends d right),
     λ ends.
         let same = ends-first d e right ends in
         (length (fileOf (impossible d)), ap (λ (k : ℕ). gives 0 k 0 (length (fileOf (impossible d)))) same),

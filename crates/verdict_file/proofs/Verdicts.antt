@@ -1,4 +1,5 @@
--- The verdict is right, and no other is: its schedule is the shortest one, or its event is the first impossible one.
+-- The verdict that `verdictOf` gives is the one that is right: its schedule is the shortest one, or its event is the
+-- first impossible one.
 use Prim.Native.Nat.{ℕ, _<_}
 use native.Mathlib.Omega.{arith}
 use mathlib.Core.Path.{_≡_, refl, sym, ap, subst}
@@ -16,8 +17,7 @@ use Rattle.model.proofs.Explanations.{explanation-shortest, unexplained-first}
 use Rattle.verdict_file.specs.Files.{Verdict, allowed, impossible}
 use Rattle.verdict_file.specs.Verdicts.{verdictOf}
 
--- A verdict is right for the events of a system: its schedule is their shortest one, or its event is the first
--- impossible one.
+-- What is asked of a verdict on the events of a system.
 unfoldable pub Right : Topology → List Event → Verdict → Type 0
 Right sys es (allowed ps) = Shortest sys es ps
 Right sys es (impossible event) = FirstImpossible sys es event
@@ -41,7 +41,7 @@ module _ (sys : Topology) (es : List Event) where
       let high : ¬ (e < d) = λ h. g .2 (f .3 e h) in
       omega arith
 
-  -- One verdict is right.
+  -- At most one verdict is right.
   right-one : (v u : Verdict) → Right sys es v → Right sys es u → v ≡ u
   unfolding Right
   right-one (allowed ps) (allowed qs) right also = ap allowed (shortest-unique sys es ps qs right also)
@@ -50,6 +50,7 @@ module _ (sys : Topology) (es : List Event) where
   right-one (impossible d) (impossible e) right also = ap impossible (first-one d e right also)
 
   module _ (w : WellFormed sys) where
+    -- The verdict is right,
     pub verdict-right : Right sys es (verdictOf sys es)
     unfolding Right verdictOf
     verdict-right = go (explanation sys es) refl
@@ -58,6 +59,7 @@ module _ (sys : Topology) (es : List Event) where
         go none e = rw (e, Right) (unexplained-first sys w es e)
         go (some ps) e = rw (e, Right) (explanation-shortest sys w es ps e)
 
+    -- and no other is.
     pub right-exactly : (v : Verdict) → Right sys es v ↔ (v ≡ verdictOf sys es)
     right-exactly v = (
       λ right. right-one v (verdictOf sys es) right verdict-right,

@@ -1,5 +1,5 @@
--- The verdict on the events of a system: allowed, with their first explanation, or impossible from the first event on
--- that makes an end to explanations.
+-- The verdict on the events of a system: allowed, with their explanation, or impossible at the least e such that the
+-- first e events have none.
 use mathlib.Core.List.{List}
 use mathlib.Core.Option.{none, some}
 use Rattle.model.specs.Cxl0.{Topology, Event}
@@ -8,4 +8,4 @@ use Rattle.verdict_file.specs.Files.{Verdict, allowed, impossible}
 
 unfoldable pub verdictOf : Topology → List Event → Verdict
 verdictOf sys es =
-    elim (explanation sys es) [ none ↦ impossible (firstUnexplained sys es) | some ps ↦ allowed ps ]
+    elim (explanation sys es) [ some ps ↦ allowed ps | none ↦ impossible (firstUnexplained sys es) ]

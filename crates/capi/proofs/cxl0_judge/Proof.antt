@@ -1,7 +1,7 @@
 -- `cxl0_judge` packs what `judge` answers.
 use borrow.Author.Needs.{needs}
 use Rattle.capi.proofs.Sizes.{judged-fits}
-use Rattle.capi.proofs.Packed.{judges-packed}
+use Rattle.capi.proofs.Packed.{judged-packed}
 use Rattle.capi.proofs.cxl0_judge.Statement.{statement}
 use Rattle.capi.proofs.cxl0_judge.Tie as tie
 
@@ -11,7 +11,7 @@ pack-judged-requires c κs = judged-fits _ _ _ _ _ (c .before .before .before .b
 returns : tie.Need-returns
 returns c =
     let judged = c .before .before .before .before .before .judge in
-    judges-packed (judged .result) (judged .ensures) (c .pack-judged .ensures)
+    judged-packed (judged .result) (judged .ensures) (c .pack-judged .ensures)
 
 pub cxl0-judge-spec : {M : Type 1} → statement M
 cxl0-judge-spec =
