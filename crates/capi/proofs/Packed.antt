@@ -1,4 +1,4 @@
--- The judge's answer, packed, and what it leaves in each area.
+-- What the judge answers, packed, and leaves in each area.
 use Prim.Native.Nat.{ℕ}
 use mathlib.Core.Path.{_≡_, ap, _∙_}
 use mathlib.Core.List.{List}
@@ -6,13 +6,11 @@ use Rattle.judge.specs.Judging.{Outcome, answerOf, outcomeOf, judgement}
 use Rattle.judge.specs.declared.Judged.{Judged}
 use Rattle.capi.specs.Packing.{packJudged}
 
-pub judged-packed : {s out : List ℕ} {offset : ℕ} {scratch : List ℕ} (j : Judged) {out' scratch' : List ℕ} {packed : ℕ}
+pub judged-packed : (s out : List ℕ) (offset : ℕ) (scratch : List ℕ) (j : Judged) {out' scratch' : List ℕ} {packed : ℕ}
     → outcomeOf j out' scratch' ≡ judgement s out offset scratch → packed ≡ packJudged (answerOf j)
-    → (packed ≡ packJudged (judgement s out offset scratch .answer))
-    × (out' ≡ judgement s out offset scratch .out)
-    × (scratch' ≡ judgement s out offset scratch .scratch)
-judged-packed j same packs = (
+    → let o = judgement s out offset scratch in
+    (packed ≡ packJudged (o .answer)) × ((out' ≡ o .out) × (scratch' ≡ o .scratch))
+judged-packed s out offset scratch j same packs = (
   packs ∙ ap (λ (o : Outcome). packJudged (o .answer)) same,
-  ap (λ (o : Outcome). o .out) same,
-  ap (λ (o : Outcome). o .scratch) same,
+  (ap (λ (o : Outcome). o .out) same, ap (λ (o : Outcome). o .scratch) same),
 )

@@ -4,4 +4,5 @@ pub mod Verdicts
 pub mod Judgements
 pub mod Conversions
 pub mod Earlier
+pub mod WorkedLogs
 pub mod Promises

@@ -7,24 +7,26 @@ use Prim.Native.Nat.{ℕ, _+_, _*_, _-_, _≤_, _<_}
 use mathlib.Core.Path.{_≡_, refl, _∙_}
 use mathlib.Core.Logic.{_↔_}
 use mathlib.Core.Bool.{true, false}
-use mathlib.Core.List.{List, List·Memᴰ, _++_}
+use mathlib.Core.List.{List, [], _∷_, List·Memᴰ, _++_}
 use mathlib.Core.Option.{some}
 use lib.Dec.{T}
 use lib.ListN.{length, take, drop}
 use Rattle.model.specs.Cxl0.{Machine, Location, Value, Topology, WellFormed, initial, start, Event, Action}
+use Rattle.model.specs.Cxl0.{LStore, Load, LFlush, RFlush, Crash}
 use Rattle.model.specs.Cxl0.{after, Run, HasRun, events, silents, count, isStore, isLoad}
 use Rattle.model.specs.Earlier as earlier
 use Rattle.model.specs.Schedule.{Step, weave, schedule, inOrder}
 use Rattle.model.specs.Shortest.{Smaller}
-use Rattle.model.specs.MarkedLogs.{MarkedLog, logs}
+use Rattle.model.specs.MarkedLogs.{MarkedLog, logs, filled, L0}
 use Rattle.model.specs.MarkedLogs as marked
 use Rattle.model.proofs.Theorems
 use Rattle.fields.specs.declared.Edition.{Edition}
-use Rattle.fields.specs.declared.Edition.the-variants.{Second}
+use Rattle.fields.specs.declared.Edition.the-variants.{First, Second}
 use Rattle.log.specs.Records.{Records, systemOf, WithinLimits}
 use Rattle.log.specs.Bytes.{Bytes, field, encode, ShortRows, NoKindBytes}
 use Rattle.log.specs.Reading.{Given, Outcome, nothing, admit, readFields, accepted, rejected, readLog}
 use Rattle.log.proofs.OneForm
+use Rattle.log.proofs.Owned
 use Rattle.log.proofs.ShortRows.{short-rows-zero, short-rows-kinds, no-kind-bytes-kinds}
 use Rattle.reader.specs.Answers as read
 use Rattle.reader.specs.declared.Reading.{Reading}
@@ -51,6 +53,7 @@ use Rattle.promises.proofs.Recordings
 use Rattle.promises.proofs.Conversions
 use Rattle.promises.proofs.Judgements
 use Rattle.promises.proofs.Earlier
+use Rattle.promises.proofs.WorkedLogs
 
 -- ==== Demand 1: what is refused, and what is accepted
 
@@ -324,6 +327,11 @@ module _ (s out : List ℕ) (offset : ℕ) (scratch : List ℕ) (j : Judged) (ou
       × (steps ≤ 256)
   step-count = Judgements.step-count s out offset scratch j out' scratch' judged fit r read
 
+  -- It is at most two for each store of the log and one for each load.
+  pub step-bound : (steps len : ℕ) → answerOf j ≡ gives 1 0 steps len
+      → steps ≤ 2 * count isStore (r .events) + count isLoad (r .events)
+  step-bound = Judgements.step-bound s out offset scratch j out' scratch' judged fit r read
+
   -- Its schedule is the shortest: no run of the log's events, with any number of silent steps, anywhere, has fewer.
   pub allowed-fewest : (steps len : ℕ) → answerOf j ≡ gives 1 0 steps len
       → (acts : List Action) → events acts ≡ r .events → Run (systemOf r) acts → steps ≤ length (silents acts)
@@ -403,6 +411,11 @@ schedule-weave = Theorems.schedule-weave
 
 -- ==== The model
 
+-- The system of every accepted log is well formed: what is said of well-formed systems, as in `bound` and
+-- `copies-agree`, is said of it.
+pub accepted-wellFormed : (s : List ℕ) (r : Records) → readLog s ≡ accepted r → WellFormed (systemOf r)
+accepted-wellFormed = Owned.accepted-wellFormed
+
 -- Copies of one location always agree in value, in every state that a run reaches.
 pub copies-agree : (sys : Topology) → WellFormed sys → (acts : List Action) → Run sys acts
     → (i j : Machine) (x : Location) (u v : Value)
@@ -413,3 +426,49 @@ copies-agree = Theorems.copies-agree
 pub marked-logs : (l : MarkedLog) → List·Memᴰ l logs
     → WellFormed (l .system) × marked.Verdict (l .system) (l .events) (l .verdict)
 marked-logs = Theorems.marked-logs
+
+-- The tenth of them, on any system: no events are allowed, with no steps.
+pub no-events : (sys : Topology) → verdictOf sys [] ≡ allowed []
+no-events = WorkedLogs.no-events
+
+-- The fourth of them with two machines, as document 01 works it out: what its bytes say, its verdict, that no other
+-- schedule makes a run of its events, and what `judge` answers and writes.
+pub case-4 : let s : List ℕ =
+    0x01 ∷ 0x02 ∷ 0x00 ∷ 0x02 ∷ 0x03
+    ∷ 0x02 ∷ 0x01 ∷ 0x00 ∷ 0x02
+    ∷ 0x03 ∷ 0x05 ∷ 0x00 ∷ 0x01 ∷ 0x01 ∷ 0x00 ∷ 0x01 ∷ 0x00
+    ∷ 0x03 ∷ 0x05 ∷ 0x00 ∷ 0x05 ∷ 0x01 ∷ 0x00 ∷ 0x00 ∷ 0x00
+    ∷ 0x03 ∷ 0x05 ∷ 0x00 ∷ 0x07 ∷ 0x02 ∷ 0x00 ∷ 0x00 ∷ 0x00
+    ∷ 0x03 ∷ 0x05 ∷ 0x00 ∷ 0x04 ∷ 0x01 ∷ 0x00 ∷ 0x00 ∷ 0x00
+    ∷ 0x04 ∷ 0x00 ∷ 0x00 ∷ [] in
+    let es = LStore 1 L0 1 ∷ LFlush 1 L0 ∷ Crash 2 ∷ Load 1 L0 0 ∷ [] in
+    let r : Records = record { edition = First; machines = 2; persistent = 3; homes = filled 2 0 ∷ []; events = es } in
+    let ps : List Step = record { before = 1; location = 0; machine = 1 } ∷ [] in
+    (readLog s ≡ accepted r)
+    × (verdictOf (systemOf r) es ≡ allowed ps)
+    × ((acts : List Action) → events acts ≡ es → Run (systemOf r) acts → schedule acts ≡ ps)
+    × ((out : List ℕ) (offset : ℕ) (scratch : List ℕ) (j : Judged) (out' scratch' : List ℕ)
+    → areasFit out offset scratch ≡ true → outcomeOf j out' scratch' ≡ judgement s out offset scratch
+    → (answerOf j ≡ gives 1 0 1 14)
+    × (take 14 (drop offset out')
+    ≡ 0x10 ∷ 0x02 ∷ 0x00 ∷ 0x01 ∷ 0x00 ∷ 0x11 ∷ 0x03 ∷ 0x00 ∷ 0x01 ∷ 0x00 ∷ 0x01 ∷ 0x04 ∷ 0x00 ∷ 0x00 ∷ []))
+case-4 = (WorkedLogs.reads .0, WorkedLogs.verdict-4, WorkedLogs.only-4, WorkedLogs.judged-4)
+
+-- The fifth of them with two machines: operation 6, an RFlush, in its place makes event 4 impossible.
+pub case-5 : let s : List ℕ =
+    0x01 ∷ 0x02 ∷ 0x00 ∷ 0x02 ∷ 0x03
+    ∷ 0x02 ∷ 0x01 ∷ 0x00 ∷ 0x02
+    ∷ 0x03 ∷ 0x05 ∷ 0x00 ∷ 0x01 ∷ 0x01 ∷ 0x00 ∷ 0x01 ∷ 0x00
+    ∷ 0x03 ∷ 0x05 ∷ 0x00 ∷ 0x06 ∷ 0x01 ∷ 0x00 ∷ 0x00 ∷ 0x00
+    ∷ 0x03 ∷ 0x05 ∷ 0x00 ∷ 0x07 ∷ 0x02 ∷ 0x00 ∷ 0x00 ∷ 0x00
+    ∷ 0x03 ∷ 0x05 ∷ 0x00 ∷ 0x04 ∷ 0x01 ∷ 0x00 ∷ 0x00 ∷ 0x00
+    ∷ 0x04 ∷ 0x00 ∷ 0x00 ∷ [] in
+    let es = LStore 1 L0 1 ∷ RFlush 1 L0 ∷ Crash 2 ∷ Load 1 L0 0 ∷ [] in
+    let r : Records = record { edition = First; machines = 2; persistent = 3; homes = filled 2 0 ∷ []; events = es } in
+    (readLog s ≡ accepted r)
+    × (verdictOf (systemOf r) es ≡ impossible 4)
+    × ((out : List ℕ) (offset : ℕ) (scratch : List ℕ) (j : Judged) (out' scratch' : List ℕ)
+    → areasFit out offset scratch ≡ true → outcomeOf j out' scratch' ≡ judgement s out offset scratch
+    → (answerOf j ≡ gives 0 4 0 8)
+    × (take 8 (drop offset out') ≡ 0x10 ∷ 0x02 ∷ 0x00 ∷ 0x00 ∷ 0x04 ∷ 0x04 ∷ 0x00 ∷ 0x00 ∷ []))
+case-5 = (WorkedLogs.reads .1, WorkedLogs.verdict-5, WorkedLogs.judged-5)

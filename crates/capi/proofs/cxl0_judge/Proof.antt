@@ -11,7 +11,7 @@ pack-judged-requires c κs = judged-fits _ _ _ _ _ (c .before .before .before .b
 returns : tie.Need-returns
 returns c =
     let judged = c .before .before .before .before .before .judge in
-    judged-packed (judged .result) (judged .ensures) (c .pack-judged .ensures)
+    judged-packed _ _ _ _ (judged .result) (judged .ensures) (c .pack-judged .ensures)
 
 pub cxl0-judge-spec : {M : Type 1} → statement M
 cxl0-judge-spec =
