@@ -4,9 +4,8 @@ mod common;
 
 use std::fs;
 use std::path::Path;
-use std::process::Command;
 
-use common::{examples, folder, print, status, tool, Pair};
+use common::{assert_document, examples, folder, print, root, status, tool, Pair};
 use corpus::{damage, encode, plausible, random_log, widened, Random, Shape};
 
 #[test]
@@ -76,28 +75,15 @@ fn replay_takes_the_shortest_schedule_and_a_longer_one() {
     }
 }
 
-/// The pictures in docs/, and the commands of docs/TEXT-FORM.md that stand there with what they print.
+/// The pictures in docs/, and the commands of documents that stand there with what they print.
 #[test]
 fn the_documents_show_what_the_tool_gives() {
-    let root = Path::new(env!("CARGO_MANIFEST_DIR")).join("../..");
-    let given = |words: &[&str]| {
-        let output = Command::new(env!("CARGO_BIN_EXE_malluvom")).current_dir(&root).args(words).output().unwrap();
-        String::from_utf8(output.stdout).unwrap()
-    };
     for (log, picture) in [("marked/04.log", "case-04.svg"), ("shortest/steps-01-one-move.log", "shortest.svg")] {
-        let drawn = fs::read_to_string(root.join("docs").join(picture)).unwrap();
-        assert_eq!(drawn, given(&["draw", &format!("examples/{log}")]), "{picture}");
+        let drawn = fs::read_to_string(root().join("docs").join(picture)).unwrap();
+        let log = root().join("examples").join(log);
+        assert_eq!(drawn, print(&["draw", log.to_str().unwrap()]), "{picture}");
     }
-    let text = fs::read_to_string(root.join("docs/TEXT-FORM.md")).unwrap();
-    let shown: Vec<&str> = text.split("    $ malluvom ").skip(1).collect();
-    assert_eq!(shown.len(), 3);
-    for command in shown {
-        let (words, rest) = command.split_once('\n').unwrap();
-        let lines = rest.lines().map_while(|line| line.strip_prefix("    ").or(line.is_empty().then_some("")));
-        let lines: Vec<&str> = lines.collect();
-        let given = given(&words.split(' ').collect::<Vec<_>>());
-        assert_eq!(lines.join("\n").trim_end(), given.trim_end(), "{words}");
-    }
+    assert_document("docs/TEXT-FORM.md", 3);
 }
 
 #[test]
@@ -227,7 +213,7 @@ fn crashes_in_a_row_are_no_set_crash() {
     let (judged, why) = explained("Crash of 1, 2");
     assert!(judged.ends_with(": impossible 3\n"), "{judged}");
     assert!(why.contains("a load by 2 of L0 can return 0, not 5.\n"), "{why}");
-    assert!(why.contains("left out, it could return 5:\n   2  Crash of 1, 2\n"), "{why}");
+    assert!(why.contains("can be left out:\n\n   2  Crash of 1, 2\n   3  Load by 2 of L0, 5"), "{why}");
 }
 
 #[test]
@@ -287,11 +273,11 @@ fn what_is_not_the_initial_value_is_explained() {
     let zero = explained("none", "MStore by 1 to L0 of 1\nCrash of 2\nLoad by 1 of L0, 0");
     assert!(zero.starts_with("impossible: event 3, Load by 1 of L0, 0\n"), "{zero}");
     assert!(zero.contains("a load by 1 of L0 can return 7, not 0.\nNothing before it stores 0 to L0.\n"), "{zero}");
-    assert!(zero.contains("All that concerns L0, in the volatile memory of 2, initially 7:\n"), "{zero}");
+    assert!(zero.contains("L0, in the volatile memory of 2, initially 7, can only be in these states "), "{zero}");
     // A value of 7 needs no store: what stands in its way is named.
     let seven = explained("all", "MStore by 1 to L0 of 1\nCrash of 2\nLoad by 1 of L0, 7");
     assert!(seven.contains("a load by 1 of L0 can return 1, not 7.\n"), "{seven}");
-    assert!(seven.contains("left out, it could return 7:\n   1  MStore by 1 to L0 of 1\n"), "{seven}");
+    assert!(seven.contains("can be left out:\n\n   1  MStore by 1 to L0 of 1\n   3  Load"), "{seven}");
 }
 
 #[test]
@@ -373,11 +359,11 @@ fn what_the_kind_does_not_leave_is_explained() {
     };
     let kept = explained("none\nL0 of 2 persistent", 0);
     assert!(kept.contains("a load by 1 of L0 can return 1, not 0.\n"), "{kept}");
-    assert!(kept.contains("All that concerns L0, in the persistent part of the memory of 2:\n"), "{kept}");
+    assert!(kept.contains("L0, in the persistent part of the memory of 2, can only be in these states "), "{kept}");
     let lost = explained("all\nL0 of 2 initially 7 volatile", 1);
     assert!(lost.contains("a load by 1 of L0 can return 7, not 1.\n"), "{lost}");
-    assert!(lost.contains("left out, it could return 1:\n   2  Crash of 2\n"), "{lost}");
-    assert!(lost.contains("All that concerns L0, in the volatile part of the memory of 2, initially 7:\n"), "{lost}");
+    assert!(lost.contains("can be left out:\n\n   2  Crash of 2\n   3  Load"), "{lost}");
+    assert!(lost.contains("L0, in the volatile part of the memory of 2, initially 7, can only be "), "{lost}");
 }
 
 /// A kind byte that is refused is refused at its field.
@@ -662,6 +648,7 @@ fn no_bytes_make_it_panic() {
             &["judge", log, file],
             &["replay", log, file],
             &["explain", log],
+            &["shrink", log],
             &["draw", log],
             &["draw", "--location", "L1", log],
         ] {

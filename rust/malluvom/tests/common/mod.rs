@@ -5,8 +5,20 @@ use std::fs;
 use std::path::{Path, PathBuf};
 use std::process::{Command, Output};
 
+/// The tool, whatever the size of the terminal that the tests run in.
+pub fn command() -> Command {
+    let mut command = Command::new(env!("CARGO_BIN_EXE_malluvom"));
+    command.env_remove("COLUMNS").env_remove("LINES");
+    command
+}
+
 pub fn tool(words: &[&str]) -> Output {
-    Command::new(env!("CARGO_BIN_EXE_malluvom")).args(words).output().unwrap()
+    command().args(words).output().unwrap()
+}
+
+/// The same on a page so wide that no line is broken.
+pub fn on_wide_page(words: &[&str]) -> Output {
+    command().env("COLUMNS", "10000").args(words).output().unwrap()
 }
 
 pub fn status(output: &Output) -> i32 {
@@ -79,12 +91,12 @@ impl Pair {
     }
 
     pub fn explain(&self) -> String {
-        print(&["explain", &self.log])
+        String::from_utf8(on_wide_page(&["explain", &self.log]).stdout).unwrap()
     }
 
     /// The explanation of an impossible log, which can be drawn too.
     pub fn why(&self) -> String {
-        let output = tool(&["explain", &self.log]);
+        let output = on_wide_page(&["explain", &self.log]);
         assert_eq!((status(&output), status(&tool(&["draw", &self.log]))), (1, 1));
         String::from_utf8(output.stdout).unwrap()
     }
@@ -117,4 +129,22 @@ pub fn examples(extension: &str) -> Vec<PathBuf> {
     found.sort();
     assert!(found.len() >= 14);
     found
+}
+
+pub fn root() -> PathBuf {
+    Path::new(env!("CARGO_MANIFEST_DIR")).join("../..")
+}
+
+/// A document's commands, so many of them, stand there with what they print.
+pub fn assert_document(name: &str, commands: usize) {
+    let text = fs::read_to_string(root().join(name)).unwrap();
+    let shown: Vec<&str> = text.split("    $ malluvom ").skip(1).collect();
+    assert_eq!(shown.len(), commands);
+    for shown in shown {
+        let (words, rest) = shown.split_once('\n').unwrap();
+        let lines = rest.lines().map_while(|line| line.strip_prefix("    ").or(line.is_empty().then_some("")));
+        let lines: Vec<&str> = lines.collect();
+        let output = command().current_dir(root()).args(words.split(' ')).output().unwrap();
+        assert_eq!(lines.join("\n").trim_end(), String::from_utf8(output.stdout).unwrap().trim_end(), "{words}");
+    }
 }

@@ -3,7 +3,7 @@
 
 use crate::failure::Failure;
 use crate::options::Options;
-use crate::{asm, convert, draw, explain, judge, replay, show};
+use crate::{asm, convert, draw, explain, judge, replay, show, shrink};
 
 /// A command.
 pub struct Command {
@@ -91,9 +91,22 @@ pub const ALL: &[Command] = &[
     Command {
         name: "explain",
         files: "LOG",
-        does: "An allowed log's shortest run step by step, or why nothing explains an impossible event.",
-        options: &[valued("-o", "TEXT", "write the text to this file"), SYNC],
+        does: "An allowed log's shortest run step by step, or why nothing explains an impossible event: the events \
+               that rule it out, and the states that its location can be in before each.",
+        options: &[
+            flag("--all", "show the table of states whole, however long, and name every event that is left out of it"),
+            valued("-o", "TEXT", "write the text to this file"),
+            SYNC,
+        ],
         run: explain::command,
+    },
+    Command {
+        name: "shrink",
+        files: "LOG",
+        does: "A smallest log that is impossible for the same reason: some events of an impossible log, up to its \
+               first impossible event.",
+        options: &[valued("-o", "LOG", "write the log to this file"), SYNC],
+        run: shrink::command,
     },
     Command {
         name: "draw",

@@ -1,7 +1,6 @@
 //! Why a log is allowed, or why nothing explains an event of it.
 
 use std::collections::BTreeSet;
-use std::fmt::Write;
 
 use malluvom::{Event, Judge, Kind, Log, Operation, Schedule, Verdict};
 
@@ -9,16 +8,26 @@ use crate::failure::Failure;
 use crate::files;
 use crate::options::Options;
 use crate::output;
-use crate::run::{actions, caches, place, Action, Held};
+use crate::page::Page;
+use crate::run::{actions, caches, listed, place, Action, Held};
 use crate::show::silent;
+use crate::shrink::smallest;
+use crate::states::Table;
+use crate::table;
+
+/// So many lines of a table are shown, whatever the page.
+const LINES_LEAST: usize = 10;
 
 pub fn command(options: &Options) -> Result<u8, Failure> {
     let path = options.one_file("the log")?;
     let (log, bytes) = files::read_log(path)?;
+    let page = Page::of_output(options.value("-o"));
     let mut judge = Judge::new();
     let (text, status) = match judge.judge(&bytes).map_err(Failure::new)? {
-        Verdict::Allowed(schedule) => (allowed(&log, &schedule), 0),
-        Verdict::Impossible { event } => (impossible(&log, usize::from(event), &mut judge)?, 1),
+        Verdict::Allowed(schedule) => (allowed(&log, &schedule, page), 0),
+        Verdict::Impossible { event } => {
+            (impossible(&log, usize::from(event), &mut judge, page, options.has("--all"))?, 1)
+        }
     };
     output::write(options, text.as_bytes())?;
     Ok(status)
@@ -32,22 +41,23 @@ fn plural(count: usize, what: &str) -> String {
     }
 }
 
-fn allowed(log: &Log, schedule: &Schedule) -> String {
+fn allowed(log: &Log, schedule: &Schedule, page: Page) -> String {
     let events = plural(log.events.len(), "event");
     let steps = plural(schedule.steps.len(), "silent step");
-    format!("allowed: {events} and {steps} make this run\n\n{}", run(log, schedule))
+    let head = page.wrapped(&format!("allowed: {events} and {steps} make this run"), 0);
+    format!("{head}\n{}", run(log, schedule, page))
 }
 
 /// A run, line by line, with what changes. It begins with what is in memory at power-on, where that is not 0 or where
 /// the memory is not of its owner's kind, which is then named.
-fn run(log: &Log, schedule: &Schedule) -> String {
+fn run(log: &Log, schedule: &Schedule, page: Page) -> String {
     let mut text = String::new();
     let mut held: Vec<Held> = (0..log.homes.len()).map(|x| Held::at_power_on(log, x as u8)).collect();
     let named = (0..).zip(&held).filter(|(x, held)| held.memory != 0 || log.differs(*x));
     let kind = |x| if log.differs(x) { format!(", {}", log.kind(x)) } else { String::new() };
     let named: Vec<String> = named.map(|(x, held)| format!("L{x}: {}{}", held.words(), kind(x))).collect();
     if !named.is_empty() {
-        line(&mut text, "", "at power-on", &named);
+        text.push_str(&line("", "at power-on", &named, page));
     }
     for action in actions(log, schedule) {
         let mut changes = match &action {
@@ -65,13 +75,13 @@ fn run(log: &Log, schedule: &Schedule) -> String {
             Action::Event(number, event) => (number.to_string(), event.to_string()),
             Action::Silent(step) => (String::new(), silent(step)),
         };
-        line(&mut text, &number, &words, &changes);
+        text.push_str(&line(&number, &words, &changes, page));
     }
     text
 }
 
-fn line(text: &mut String, number: &str, words: &str, changes: &[String]) {
-    let _ = writeln!(text, "{number:>4}  {words:<30}  {}", changes.join("; "));
+fn line(number: &str, words: &str, changes: &[String], page: Page) -> String {
+    page.wrapped(&format!("{number:>4}  {words:<30}  {}", changes.join("; ")), 38)
 }
 
 /// What each machine of a set crash loses in its one step: copies, and values in a volatile memory.
@@ -118,81 +128,90 @@ fn change(x: usize, before: Held, after: Held, action: &Action) -> Option<String
     Some(format!("L{x}: {words}"))
 }
 
-fn impossible(log: &Log, number: usize, judge: &mut Judge) -> Result<String, Failure> {
+/// Why nothing explains an event: what could have been read, the events that are enough for that, and the states before
+/// each of them.
+fn impossible(log: &Log, number: usize, judge: &mut Judge, page: Page, all: bool) -> Result<String, Failure> {
     let event = log.events[number - 1];
-    let before = &log.events[..number - 1];
-    let mut text = format!("impossible: event {number}, {event}\n\n");
-    if !event.operation.reads() {
-        text.push_str("No choice of silent steps lets it happen.\n");
-        return Ok(text);
+    let kept = smallest(log, number, judge)?;
+    let table = table::simplest(log, &kept);
+    let lines = table::lines(log, &table, page, all);
+    let mut head = vec![format!("impossible: event {number}, {event}"), String::new(), instead(log, number, judge)?];
+    let before = if kept.len() == 1 {
+        head.push(format!("Nothing before it stores {} to L{}.", event.value, event.location));
+        "it"
+    } else {
+        head.push(format!("These events are enough to rule out {}, and none of them can be left out:", event.value));
+        head.push(String::new());
+        head.extend(kept.iter().map(|&e| kept_event(log, e, number)));
+        "each of them"
+    };
+    head.push(String::new());
+    head.push(format!("{}, can only be in these states before {before}:", place(log, event.location)));
+    if lines.iter().any(|line| line.contains("another")) {
+        head.push(format!("Another value is any but {}.", listed(table.values.named.iter(), "and")));
     }
-    let values: Vec<String> = loadable(log, before, &event, judge)?.iter().map(u32::to_string).collect();
-    let Event { machine, location, value, .. } = event;
-    text.push_str(&match before.len() {
+    head.push(String::new());
+    let head: String = head.iter().map(|line| page.wrapped(line, 0)).collect();
+    let end = format!("\n{}", page.wrapped(&conclusion(number, &table), 0));
+    let room = page.lines.saturating_sub(head.lines().count() + end.lines().count());
+    let shown = if all { lines.concat() } else { last(&lines, room, page) };
+    Ok(head + &shown + &end)
+}
+
+/// What the event could have read.
+fn instead(log: &Log, number: usize, judge: &mut Judge) -> Result<String, Failure> {
+    let before = &log.events[..number - 1];
+    let event = &log.events[number - 1];
+    let values = loadable(log, before, event, judge)?;
+    let explained = match before.len() {
         0 => "It comes first, and".to_string(),
         1 => "The event before it can be explained, and then".to_string(),
         count => format!("The {count} events before it can be explained, and then"),
-    });
-    let _ = writeln!(text, " a load by {machine} of L{location} can return {}, not {value}.", values.join(" or "));
-    if value != log.initial(location) && !stored(before, location).any(|stored| stored == value) {
-        let _ = writeln!(text, "Nothing before it stores {value} to L{location}.");
-    } else {
-        text.push_str(&constraints(log, number, &event, judge)?);
-    }
-    text.push_str(&history(log, number, location));
-    Ok(text)
-}
-
-/// The values that events store to a location.
-fn stored(events: &[Event], location: u8) -> impl Iterator<Item = u32> + '_ {
-    events.iter().filter(move |event| event.location == location).filter_map(Event::stored)
-}
-
-fn is_allowed(log: &Log, events: &[Event], judge: &mut Judge) -> Result<bool, Failure> {
-    let bytes = log.with_events(events).map_err(Failure::new)?;
-    Ok(matches!(judge.judge(&bytes).map_err(Failure::new)?, Verdict::Allowed(_)))
+    };
+    let Event { machine, location, value, .. } = event;
+    let values = listed(values.iter(), "or");
+    Ok(format!("{explained} a load by {machine} of L{location} can return {values}, not {value}."))
 }
 
 /// The values that the load, or that of a read-modify-write, could have returned after these events, each found by
 /// judging. No other value can be there than the initial one and what was stored.
 fn loadable(log: &Log, before: &[Event], load: &Event, judge: &mut Judge) -> Result<Vec<u32>, Failure> {
-    let mut candidates: BTreeSet<u32> = stored(before, load.location).collect();
+    let here = before.iter().filter(|event| event.location == load.location);
+    let mut candidates: BTreeSet<u32> = here.filter_map(Event::stored).collect();
     candidates.insert(log.initial(load.location));
     let mut values = Vec::new();
     for value in candidates {
         let events = [before, &[Event { value, ..*load }]].concat();
-        if is_allowed(log, &events, judge)? {
+        let bytes = log.with_events(&events).map_err(Failure::new)?;
+        if let Verdict::Allowed(_) = judge.judge(&bytes).map_err(Failure::new)? {
             values.push(value);
         }
     }
     Ok(values)
 }
 
-/// The events that stand in the way: without any one of them the load could have returned its value.
-fn constraints(log: &Log, number: usize, load: &Event, judge: &mut Judge) -> Result<String, Failure> {
-    let mut text = String::new();
-    for (left_out, event) in log.events[..number - 1].iter().enumerate() {
-        let mut events = log.events[..number].to_vec();
-        events.remove(left_out);
-        if event.concerns(load.location) && is_allowed(log, &events, judge)? {
-            let _ = writeln!(text, "{:>4}  {event}", left_out + 1);
-        }
-    }
-    let value = load.value;
-    Ok(match text.is_empty() {
-        true => format!("More than one event keeps it from returning {value}: leaving out any one is not enough.\n"),
-        false => format!("\nIf any one of these events were left out, it could return {value}:\n{text}"),
-    })
+fn kept_event(log: &Log, event: usize, impossible: usize) -> String {
+    let mark = if event + 1 == impossible { "  <- impossible" } else { "" };
+    format!("{:>4}  {}{mark}", event + 1, log.events[event])
 }
 
-/// What the log says of a location up to an event.
-fn history(log: &Log, number: usize, location: u8) -> String {
-    let mut text = format!("\nAll that concerns {}:\n", place(log, location));
-    for (e, event) in log.events[..number].iter().enumerate() {
-        if event.concerns(location) {
-            let mark = if e + 1 == number { "  <- impossible" } else { "" };
-            let _ = writeln!(text, "{:>4}  {event}{mark}", e + 1);
-        }
+fn conclusion(number: usize, table: &Table) -> String {
+    let closed = match table.places.iter().any(|place| !place.left_out.is_empty()) {
+        true => "Silent steps, and the events left out above a list, lead from its states only to its states.",
+        false => "Silent steps lead from the states of a list only to its states.",
+    };
+    format!(
+        "{closed} Event {number} is stopped in all states of its list: no choice of silent steps explains it. \
+         docs/RULES.md has the rules, docs/EXPLAIN.md says how to check the table."
+    )
+}
+
+/// As many of the last lines of a table as there is room for.
+fn last(lines: &[String], room: usize, page: Page) -> String {
+    if lines.len() <= room {
+        return lines.concat();
     }
-    text
+    let shown = room.saturating_sub(1).max(LINES_LEAST).min(lines.len());
+    let cut = format!("  These are the last {shown} of {} lines; --all shows the whole table.", lines.len());
+    page.wrapped(&cut, 4) + &lines[lines.len() - shown..].concat()
 }

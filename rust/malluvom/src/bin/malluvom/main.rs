@@ -13,11 +13,15 @@ mod judge;
 mod names;
 mod options;
 mod output;
+mod page;
 mod progress;
 mod replay;
 mod report;
 mod run;
 mod show;
+mod shrink;
+mod states;
+mod table;
 mod text;
 
 use std::ffi::OsString;

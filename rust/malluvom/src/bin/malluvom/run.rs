@@ -1,5 +1,5 @@
 //! A run for showing: the events of a log with the silent steps of a schedule that replay said yes to, and what one
-//! location holds after each. It judges nothing.
+//! location holds after each. The rules here are for showing; the verdict is the proved library's.
 
 use malluvom::{Event, Kind, Log, MachineSet, Operation, Schedule, Step};
 
@@ -37,10 +37,11 @@ pub fn actions(log: &Log, schedule: &Schedule) -> Vec<Action> {
 }
 
 /// What one location holds in a run. Copies agree, so one value is enough.
-#[derive(Clone, Copy, PartialEq, Eq)]
+#[derive(Clone, Copy, PartialEq, Eq, PartialOrd, Ord)]
 pub struct Held {
     /// Bit i - 1 is set if machine i's cache holds a copy.
     pub sharers: u8,
+    /// The value of the copies, 0 if there is none: so equal states are equal here.
     pub copy: u32,
     pub memory: u32,
 }
@@ -55,12 +56,33 @@ impl Held {
         self.sharers >> (machine - 1) & 1 == 1
     }
 
+    /// Whether an event of the location, or a crash, is possible.
+    pub fn allows(&self, event: &Event) -> bool {
+        let seen = if self.sharers == 0 { self.memory } else { self.copy };
+        match event.operation {
+            Operation::LFlush => !self.by(event.machine),
+            Operation::RFlush => self.sharers == 0,
+            operation => !operation.reads() || event.value == seen,
+        }
+    }
+
+    /// The silent steps of the location that are possible.
+    pub fn silent_steps(self, log: &Log, location: u8) -> impl Iterator<Item = Action> {
+        let owner = log.owner(location);
+        let possible = move |machine: &u8| match *machine {
+            0 => self.by(owner),
+            machine => machine != owner && self.by(machine),
+        };
+        let steps = (0..=log.machines).filter(possible);
+        steps.map(move |machine| Action::Silent(Step { before: 0, location, machine }))
+    }
+
     /// What the location, with this number, holds after something that happens.
     pub fn after(self, log: &Log, location: u8, action: &Action) -> Held {
         let owner = log.owner(location);
         let bit = |machine: u8| 1u8 << (machine - 1);
         let Held { sharers, copy, memory } = self;
-        match *action {
+        let after = match *action {
             action if !action.concerns(location) => self,
             Action::Silent(Step { machine: 0, .. }) => Held { sharers: 0, copy, memory: copy },
             Action::Silent(Step { machine, .. }) => {
@@ -85,7 +107,8 @@ impl Held {
                     }
                 }
             }
-        }
+        };
+        Held { copy: if after.sharers == 0 { 0 } else { after.copy }, ..after }
     }
 
     /// In words.
@@ -110,10 +133,19 @@ pub fn place(log: &Log, location: u8) -> String {
 
 /// What the caches of a set of machines do, in words, or nothing if there is none.
 pub fn caches(set: u8, verb: &str) -> Option<String> {
-    let machines: Vec<String> = MachineSet::from_bits(set).iter().map(|machine| machine.to_string()).collect();
-    match &machines[..] {
-        [] => None,
-        [one] => Some(format!("cache of {one} {verb}s")),
-        more => Some(format!("caches of {} {verb}", more.join(" and "))),
+    let set = MachineSet::from_bits(set);
+    match set.len() {
+        0 => None,
+        1 => Some(format!("cache of {set} {verb}s")),
+        _ => Some(format!("caches of {} {verb}", listed(set.iter(), "and"))),
+    }
+}
+
+/// Things in a row, with a word before the last.
+pub fn listed(things: impl Iterator<Item = impl ToString>, word: &str) -> String {
+    let mut things: Vec<String> = things.map(|thing| thing.to_string()).collect();
+    match things.pop() {
+        Some(last) if !things.is_empty() => format!("{} {word} {last}", things.join(", ")),
+        last => last.unwrap_or_default(),
     }
 }
