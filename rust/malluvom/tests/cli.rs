@@ -84,6 +84,7 @@ fn the_documents_show_what_the_tool_gives() {
         assert_eq!(drawn, print(&["draw", log.to_str().unwrap()]), "{picture}");
     }
     assert_document("docs/TEXT-FORM.md", 3);
+    assert_document("docs/EXPLAIN.md", 5);
 }
 
 #[test]
