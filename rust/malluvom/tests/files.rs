@@ -24,21 +24,24 @@ fn text(path: &Path) -> &str {
     path.to_str().unwrap()
 }
 
-/// Runs the tool as a user for whom permissions count, in a folder that this user can reach.
+/// Runs the tool as a user for whom permissions count, in a folder that this user can reach and that has the tool.
 fn as_user(folder: &Path, words: &[&str]) -> Output {
     let mut command = Command::new(folder.join("malluvom"));
-    fs::copy(env!("CARGO_BIN_EXE_malluvom"), folder.join("malluvom")).unwrap();
     if fs::metadata("/proc/self").unwrap().uid() == 0 {
         command.uid(65_534);
     }
     command.current_dir(folder).args(words).output().unwrap()
 }
 
-/// A folder that every user can reach and write to.
+/// A folder that every user can reach and write to, with the tool in it. Another process copies it: a program cannot be
+/// started while one of our threads still has it open.
 fn open_folder(name: &str) -> PathBuf {
     let folder = std::env::temp_dir().join(format!("malluvom-{name}-{}", std::process::id()));
     fs::create_dir_all(&folder).unwrap();
     fs::set_permissions(&folder, fs::Permissions::from_mode(0o777)).unwrap();
+    let mut copy = Command::new("cp");
+    copy.arg(env!("CARGO_BIN_EXE_malluvom")).arg(folder.join("malluvom"));
+    assert!(copy.status().unwrap().success());
     folder
 }
 
@@ -110,7 +113,6 @@ fn a_folder_that_cannot_be_written_is_a_failure_of_its_own() {
     put(ALLOWED, &base.join("a.log"));
     put(ALLOWED, &base.join("b.log"));
     assert_eq!(status(&tool(&["judge", "--write", text(&base.join("b.log"))])), 0);
-    fs::copy(env!("CARGO_BIN_EXE_malluvom"), base.join("malluvom")).unwrap();
     fs::set_permissions(&base, fs::Permissions::from_mode(0o555)).unwrap();
     let judged = as_user(&base, &["judge", "--json", "--write", "."]);
     fs::set_permissions(&base, fs::Permissions::from_mode(0o777)).unwrap();
