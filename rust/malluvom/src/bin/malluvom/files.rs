@@ -103,14 +103,7 @@ pub fn refused_at(bytes: &[u8], refusal: Refusal) -> Place {
         Refusal::ValueTooLarge => convert(&[fields, &[0x04, 0, 0]].concat()).is_ok(),
         _ => matches!(read(fields), Err(Refusal::Truncated) | Ok(_)),
     };
-    let mut next = Place { field: 1, byte: 0 };
-    for (count, (at, _, payload)) in log::fields(bytes).enumerate() {
-        let end = at + 3 + payload.len();
-        next = Place { field: count + 1, byte: at };
-        if !passes(&bytes[..end]) {
-            break;
-        }
-        next = Place { field: count + 2, byte: end };
-    }
-    next
+    let ends: Vec<usize> = log::fields(bytes).map(|(at, _, payload)| at + 3 + payload.len()).collect();
+    let passed = ends.partition_point(|&end| passes(&bytes[..end]));
+    Place { field: passed + 1, byte: ends[..passed].last().copied().unwrap_or(0) }
 }
