@@ -34,6 +34,15 @@ unfolding Right Finds
 concluded-right (Weighed.Allowed steps) done = done .finds
 concluded-right (Weighed.Impossible number) done = done .finds
 
+-- A verdict of a verdict file's form that was issued to an output with room is told and written.
+pub issued-whole : (v : Verdict) {out : List ℕ} {offset : ℕ} → room out offset ≡ true → writable v ≡ true
+    → {out' : List ℕ} {j : Judged} → Issued v out offset out' j
+    → (answerOf j ≡ told v) × (out' ≡ put out offset (fileOf v))
+unfolding output
+issued-whole v {out} {offset} fits form issued =
+    let written = file out offset v fits form in
+    (rw written at (issued .answer), rw written at (issued .file))
+
 -- No more events than a log has.
 module _ {t : topology.Topology} {n : ℕ} {w : List ℕ} (can : Weighable t n w) (few : n ≤ eventsMost) where
   abbrev sys : Topology
@@ -75,7 +84,4 @@ module _ {t : topology.Topology} {n : ℕ} {w : List ℕ} (can : Weighable t n w
   pub right-issued : (v : Verdict) → Right sys es v → {out : List ℕ} {offset : ℕ} → room out offset ≡ true
       → {out' : List ℕ} {j : Judged} → Issued v out offset out' j
       → (answerOf j ≡ told v) × (out' ≡ put out offset (fileOf v))
-  unfolding output
-  right-issued v right {out} {offset} fits issued =
-      let written = file out offset v fits (right-writable v right) in
-      (rw written at (issued .answer), rw written at (issued .file))
+  right-issued v right fits issued = issued-whole v fits (right-writable v right) issued

@@ -53,8 +53,8 @@ verdict v out offset scratch =
 unfoldable pub areasFit : (out : List ℕ) (offset : ℕ) (scratch : List ℕ) → Bool
 areasFit out offset scratch = room out offset && leb 4096 (length scratch)
 
--- What the judge answers and leaves, with areas that fit, by what the log is read as: its refusal, or the verdict on its
--- events.
+-- What the judge answers and leaves, with areas that fit, by what the log is read as: its refusal, or the verdict on
+-- its events.
 unfoldable pub judgementOf : Log → (out : List ℕ) (offset : ℕ) (scratch : List ℕ) → Outcome
 judgementOf (rejected number) out offset scratch = refusal number out scratch
 judgementOf (accepted r) out offset scratch = verdict (verdictOf (systemOf r) (r .events)) out offset scratch

@@ -1,5 +1,5 @@
--- Three logs of document 01, computed from the definitions: the one without events, and cases 4 and 5 with two machines,
--- from the bytes of the log to those of the verdict file.
+-- Three logs of document 01, computed from the definitions: the one without events, and cases 4 and 5 with two
+-- machines, from the bytes of the log to those of the verdict file.
 use Prim.Native.Nat.{ℕ, suc}
 use native.Mathlib.Omega.{arith}
 use mathlib.Core.Path.{_≡_, refl, sym, ap, _∙_, subst}

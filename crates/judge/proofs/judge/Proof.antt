@@ -1,9 +1,14 @@
 -- `judge` meets its contract.
+use Prim.Native.Nat.{ℕ}
 use mathlib.Core.Path.{_≡_, sym, ap, _∙_}
 use mathlib.Core.Bool.{true}
+use mathlib.Core.List.{List}
 use denote.Ref.{now}
 use borrow.Author.Needs.{needs}
 use borrow.Author.Tests.{not-true, not-false}
+use Rattle.log.specs.Records.{Records}
+use Rattle.log.specs.Reading.{accepted, readLog}
+use Rattle.log.specs.Answers.{headOf}
 use Rattle.reader.specs.Answers.{meaningOf}
 use Rattle.reader.proofs.Heads.{accepted-head, refused-number}
 use Rattle.verdict_file.specs.Writing.{room}
@@ -27,6 +32,16 @@ fit c =
     areas-fit (now (a .log)) (now (a .out)) (a .offset) (now (a .scratch))
     (sym (k .has-room .ensures) ∙ not-false _ (c .before .if1 .left))
     (c .if2 .left)
+
+-- After a head was read: the log is accepted, and the head is that of its records.
+abbrev log : tie.After-head → List ℕ
+log h = now (start (h .before .before .before .before .before) .args .log)
+
+head-read : (h : tie.After-head)
+    → (r : Records) × (readLog (log h) ≡ accepted r) × (headOf r ≡ h .head .given .0 .0)
+head-read h =
+    let r = h .before .before in
+    accepted-head (log h) (h .head .given .0 .0) (sym (ap meaningOf (h .head .given .1)) ∙ r .read .ensures)
 
 has-room-requires : tie.Need-has-room-requires
 has-room-requires c κs = search needs
@@ -52,9 +67,7 @@ enum-known-head c = search needs
 decide-requires : tie.Need-decide-requires
 decide-requires c κs =
     let h = c .before .before .before in
-    let r = h .before .before in
-    let said = sym (ap meaningOf (h .head .given .1)) ∙ r .read .ensures in
-    (fit (r .before), accepted-head (now (start (r .before .before .before) .args .log)) (h .head .given .0 .0) said)
+    (fit (h .before .before .before), head-read h)
 
 enum-known-why : tie.Need-enum-known-why
 enum-known-why c = search needs
@@ -68,8 +81,8 @@ same-length-2 c = search needs
 returns-3 : tie.Need-returns-3
 returns-3 c =
     let d = c .before .before .before .before in
-    let e = d .before .before .before .before .before .before .before in
-    judged _ _ _ _ _ (fit e) (d .decide .ensures)
+    let h = d .before .before .before .before in
+    judged _ _ _ _ _ (fit (h .before .before .before)) (d .decide .ensures)
 
 returns-4 : tie.Need-returns-4
 returns-4 c =
