@@ -26,7 +26,7 @@ def calls(path, text):
 def imports(text):
     """The names that a file brings in, each with the module and the name there; and its short names for modules."""
     names, modules = {}, {}
-    for line in re.findall(r"^(?:pub )?(?:ghost )?use ([^;\n]*);?$", text, flags=re.M):
+    for line in re.findall(r"^(?:unfoldable )?(?:pub )?(?:ghost )?use ([^;\n]*);?$", text, flags=re.M):
         group = re.fullmatch(r"(\S+)\.\{(.*)\}", line)
         if group:
             for name in group.group(2).split(","):

@@ -1,8 +1,10 @@
 pub mod Vectors
 pub mod Tests
 pub mod Admission
-pub mod Passes
 pub mod Checks
+pub mod Walks
+pub mod Bounds
+pub mod Forms
 pub mod Tags
 pub mod Each
 pub mod Elements
