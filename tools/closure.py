@@ -26,7 +26,7 @@ def calls(path, text):
 def imports(text):
     """The names that a file brings in, each with the module and the name there; and its short names for modules."""
     names, modules = {}, {}
-    for line in re.findall(r"^(?:unfoldable )?(?:pub )?(?:ghost )?use ([^;\n]*);?$", text, flags=re.M):
+    for line in re.findall(r"^(?:pub )?(?:ghost )?use ([^;\n]*);?$", text, flags=re.M):
         group = re.fullmatch(r"(\S+)\.\{(.*)\}", line)
         if group:
             for name in group.group(2).split(","):
@@ -65,7 +65,7 @@ class Tree:
         return self.files[path]
 
     def meant(self, module, name):
-        """What a name of a module is, or None if the module's file does not define it."""
+        """What a name of a module is, or None if the module's file neither defines it nor passes it on (`pub use`)."""
         if ".proofs." in module:
             return ("proof", module, name)
         own = re.fullmatch(r"Rattle·(\w+)(?:·specs)?\.specs\.(.*)", module)
@@ -75,8 +75,10 @@ class Tree:
         path = f"crates/{crate}/specs/{rest.replace('.', '/')}.antt"
         if path not in self.texts:
             return ("library", module, name)
-        item = self.file(path).of.get(name)
-        return item and ("definition", path, item)
+        file = self.file(path)
+        if name in file.of:
+            return ("definition", path, file.of[name])
+        return self.meant(*file.names[name]) if name in file.names else None
 
     def named(self, path, text):
         """What a text of a file names."""

@@ -2,9 +2,12 @@ pub mod Vectors
 pub mod Tests
 pub mod Admission
 pub mod Checks
-pub mod Walks
-pub mod Bounds
-pub mod Forms
+pub mod Refusals
+pub mod Passes
+pub mod Bounded
+pub mod Kept
+pub mod Behind
+pub mod Chains
 pub mod Tags
 pub mod Each
 pub mod Elements
@@ -25,4 +28,3 @@ pub mod ShortRows
 pub mod OneForm
 pub mod Owned
 pub mod Lengths
-pub mod Bounded

@@ -1,6 +1,6 @@
 pub mod Records
 pub mod Bytes
 pub mod Payloads
-pub mod Walk
+pub mod Format
 pub mod Reading
 pub mod Answers

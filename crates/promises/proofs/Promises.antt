@@ -24,7 +24,7 @@ use Rattle.fields.specs.declared.Edition.{Edition}
 use Rattle.fields.specs.declared.Edition.the-variants.{First, Second}
 use Rattle.log.specs.Records.{Records, systemOf, WithinLimits}
 use Rattle.log.specs.Bytes.{Bytes, field, encode, ShortRows, NoKindBytes}
-use Rattle.log.specs.Reading.{Outcome, nothing, admit, readFields, accepted, rejected, readLog, Gift, Reached}
+use Rattle.log.specs.Reading.{Given, Outcome, nothing, admit, readFields, accepted, rejected, readLog}
 use Rattle.log.proofs.OneForm
 use Rattle.log.proofs.Owned
 use Rattle.log.proofs.ShortRows.{short-rows-zero, short-rows-kinds, no-kind-bytes-kinds}
@@ -103,23 +103,23 @@ module _ (buf : List ℕ) (used tag : ℕ) (payload : List ℕ) (a : Recorded) (
 
   -- Then the used bytes are read. They give their refusal, or 12 if they hold the end.
   module _ (inside : used ≤ length buf) where
-    pub record-used-refused : (number : ℕ) → readFields 0 nothing (take used buf) ≡ Reached.refusal number
+    pub record-used-refused : (number : ℕ) → readFields 0 nothing (take used buf) ≡ Outcome.refusal number
         → recording.answerOf a ≡ recording.rejected number
     record-used-refused = Recordings.record-used-refused buf used tag payload a buf' call inside
 
     pub record-after-end : (r : Records) (rest : List ℕ)
-        → readFields 0 nothing (take used buf) ≡ Reached.ended r rest
+        → readFields 0 nothing (take used buf) ≡ Outcome.ended r rest
         → recording.answerOf a ≡ recording.rejected 12
     record-after-end = Recordings.record-after-end buf used tag payload a buf' call inside
 
     -- Then the new field is read after them. It gives its refusal; one that is not refused gives the new count, or 1 if
     -- it does not fit.
-    module _ (r : Records) (so-far : readFields 0 nothing (take used buf) ≡ Reached.unfinished r) where
-      pub record-field-refused : (number : ℕ) → admit r tag (length payload) payload ≡ Gift.refused number
+    module _ (r : Records) (so-far : readFields 0 nothing (take used buf) ≡ Outcome.unfinished r) where
+      pub record-field-refused : (number : ℕ) → admit r tag (length payload) payload ≡ Given.refused number
           → recording.answerOf a ≡ recording.rejected number
       record-field-refused = Recordings.record-field-refused buf used tag payload a buf' call inside r so-far
 
-      module _ (stands : (number : ℕ) → ¬ (admit r tag (length payload) payload ≡ Gift.refused number)) where
+      module _ (stands : (number : ℕ) → ¬ (admit r tag (length payload) payload ≡ Given.refused number)) where
         pub record-fits : used + 3 + length payload ≤ length buf
             → recording.answerOf a ≡ recording.count (used + 3 + length payload)
         record-fits = Recordings.record-fits buf used tag payload a buf' call inside r so-far stands

@@ -3,8 +3,7 @@ use Prim.Native.Nat.{ℕ, _<_}
 use mathlib.Core.Path.{_≡_}
 use mathlib.Core.List.{List}
 use lib.ListN.{take}
-use Rattle.log.proofs.Lengths.{logMost}
-use Rattle.log.proofs.Bounded.{bounded}
+use Rattle.log.proofs.Lengths.{logMost, bounded}
 use Rattle.judge.specs.Judging.{judgement}
 
 -- What the judge answers and leaves with the first n bytes is what it does with the whole input.
