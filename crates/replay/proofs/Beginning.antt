@@ -11,7 +11,6 @@ use Rattle.model.specs.Cxl0.{Topology, start}
 use Rattle.model.specs.Schedule.{Step, weave, inOrder}
 use Rattle.model.specs.Meaning.{topologyOf}
 use Rattle.model.proofs.Tests.{and-l, and-r}
-use Rattle.states.specs.States.{stateOf}
 use Rattle.log.specs.Records.{Records, systemOf}
 use Rattle.log.proofs.Checks.{clash}
 use Rattle.cursors.specs.Opening.{Opens}
@@ -68,11 +67,11 @@ count-few sys n f m e =
 -- At the system's start, with no event passed, at the first event and the first step: everything is ahead.
 pub stands-first : {s f : List ℕ} {r : Records} {o : Opened} (n : ℕ) (ps : List Step) (w : Place)
     → Opens s r o → readSchedule (topologyOf (o .topology)) n f ≡ some ps → length (r .events) ≡ n
-    → stateOf (o .topology) (w .state) ≡ start (topologyOf (o .topology)) → w .passed ≡ 0
-    → w .event ≡ o .events → w .step ≡ 5
-    → Stands s f (o .topology) n (replayed (topologyOf (o .topology)) (r .events) ps) (n + length ps) w
+    → w .passed ≡ 0 → w .event ≡ o .events → w .step ≡ 5
+    → let sys = topologyOf (o .topology) in
+    Stands s f (o .topology) n (replayed sys (r .events) ps) (n + length ps) (start sys) w
 unfolding replayed weave
-stands-first {s} {f} {r} {o} n ps w opened read count state passed event step =
+stands-first {s} {f} {r} {o} n ps w opened read count passed event step =
     let sys = topologyOf (o .topology) in
     record {
       limits = opened .limits;
@@ -85,7 +84,7 @@ stands-first {s} {f} {r} {o} n ps w opened read count state passed event step =
       all = rw (passed, count) (omega arith);
       least = 0;
       order = in-order sys n ps f read;
-      answer = rw (passed, state) refl;
+      answer = rw passed refl;
     }
 
 -- ---- what the answer is

@@ -18,7 +18,6 @@ use Rattle.model.specs.declared.Topology.{Topology}
 use Rattle.model.specs.declared.Event as model
 use Rattle.model.proofs.Tests.{T→true}
 use Rattle.model.proofs.Weaving.{inOrder-cons, weave-due, weave-event}
-use Rattle.states.specs.States.{stateOf}
 use Rattle.log.proofs.Elements.{no-elements}
 use Rattle.log.proofs.Checks.{clash}
 use Rattle.log.specs.Payloads.{Numbers, eventWith}
@@ -28,9 +27,9 @@ use Rattle.cursors.proofs.Found.{operation-found}
 use Rattle.schedules.specs.Schedules.{stepAt, readSteps}
 use Rattle.schedules.proofs.Cursor.{walks, stops}
 use Rattle.replay.specs.Replaying.{Answer, counted, replayFrom}
-use Rattle.replay.specs.Places.{Stands, Goes, Took}
+use Rattle.replay.specs.Places.{taken, Stands, Goes, Takes}
 use Rattle.replay.specs.declared.walking.Place.{Place}
-use Rattle.replay.specs.declared.walking.Went.{Went}
+use Rattle.replay.specs.declared.walking.Next.{Next}
 
 -- A step of a machine, which is never 0, propagates its copy.
 pub propagates : (p : Step) → p .machine ≢ 0 → silentOf p ≡ Propagate (p .machine) (p .location)
@@ -83,43 +82,43 @@ attempted t s at d {e} {i} found same state =
     ap (λ (x : Numbers). isOperation (x .operation)) same ∙ operation-found s at e i found in
     rw (known, ← same)
 
-module _ {s f : List ℕ} {t : Topology} {n : ℕ} {a : Answer} {k : ℕ} {w : Place}
-    (g : Stands s f t n a (suc k) w) where
+module _ {s f : List ℕ} {t : Topology} {n : ℕ} {a : Answer} {k : ℕ} {x : cxl0.State} {w : Place}
+    (g : Stands s f t n a (suc k) x w) where
   -- Where an action is next, and these events and steps come after it, replay goes on from them or stops.
-  goes : (act : Action) (es : List Event) (ps : List Step) (i j end least : ℕ) (r : Went)
+  goes : (act : Action) (es : List Event) (ps : List Step) (i j end least : ℕ) (r : Next)
       → weaveFrom (w .passed) (g .es) (g .ps) ≡ act ∷ weaveFrom (counted (w .passed) act) es ps
       → Events s i es end → readSteps (drop j f) ≡ some ps → length es + length ps ≡ k
       → counted (w .passed) act + length es ≡ n → T (inOrder least n ps)
-      → Took t (attempt t act (stateOf t (w .state))) (counted (w .passed) act) i j r
-      → Goes s f t n a k w r
-  goes act es ps i j end least r woven events steps ahead all order took =
+      → Takes t x act (counted (w .passed) act) i j r
+      → Goes s f t n a k x w r
+  goes act es ps i j end least r woven events steps ahead all order takes =
       let answer = rw woven at (g .answer) in
       let one = one-action t (g .limits) (w .passed) act (weaveFrom (counted (w .passed) act) es ps)
-      (stateOf t (w .state)) a (attempt t act (stateOf t (w .state))) answer refl in
+      x a (taken t (r .thing) x) answer (takes .outcome) in
       record {
         on = λ yes. record {
           limits = g .limits;
           es = es;
           ps = ps;
           end = end;
-          events = subst (λ (at : ℕ). Events s at es end) (sym (took .event)) events;
-          steps = rw (took .step) steps;
+          events = subst (λ (at : ℕ). Events s at es end) (sym (takes .event)) events;
+          steps = rw (takes .step) steps;
           ahead = ahead;
-          all = rw (took .passed) all;
+          all = rw (takes .passed) all;
           least = least;
           order = order;
-          answer = rw (took .passed, took .state) (one .0 (sym (took .possible) ∙ yes));
+          answer = rw (takes .passed) (one .0 yes);
         };
-        stop = λ no. one .1 (sym (took .possible) ∙ no);
+        stop = λ no. one .1 no;
       }
 
   -- A step that is due.
-  pub step-goes : (p : Step) (j : ℕ) (r : Went) → stepAt f (w .step) ≡ some (p, j) → p .before ≤ w .passed
-      → Took t (attempt t (silent (silentOf p)) (stateOf t (w .state))) (w .passed) (w .event) j r
-      → Goes s f t n a k w r
-  step-goes p j r found due took = go (g .ps) refl
+  pub step-goes : (p : Step) (j : ℕ) (r : Next) → stepAt f (w .step) ≡ some (p, j) → p .before ≤ w .passed
+      → Takes t x (silent (silentOf p)) (w .passed) (w .event) j r
+      → Goes s f t n a k x w r
+  step-goes p j r found due takes = go (g .ps) refl
     where
-      go : (ps : List Step) → g .ps ≡ ps → Goes s f t n a k w r
+      go : (ps : List Step) → g .ps ≡ ps → Goes s f t n a k x w r
       go [] e =
           let last = stops f (w .step) (rw e at (g .steps)) in
           clash (cc)
@@ -131,17 +130,17 @@ module _ {s f : List ℕ} {t : Topology} {n : ℕ} {a : Answer} {k : ℕ} {w : P
           let order = inOrder-cons (g .least) n q qs .0 (rw e at (g .order)) .2 in
           goes (silent (silentOf p)) (g .es) qs (w .event) j (g .end) (q .before) r
           (rw (e, same) (weave-due (w .passed) (g .es) p qs due))
-          (g .events) (rw (← position) rest) (omega (arith, g .ahead, ap length e)) (g .all) order took
+          (g .events) (rw (← position) rest) (omega (arith, g .ahead, ap length e)) (g .all) order takes
 
   -- The event, where no step is due.
-  event-next : T (inOrder (suc (w .passed)) n (g .ps)) → 1 ≤ length (g .es) → (r : Went)
+  event-next : T (inOrder (suc (w .passed)) n (g .ps)) → 1 ≤ length (g .es) → (r : Next)
       → ((e : Numbers) (i : ℕ) → eventAt s (w .event) ≡ some (e, i) → w .passed < n
-      → Took t (attempt t (event (eventWith e)) (stateOf t (w .state))) (w .passed + 1) i (w .step) r)
-      → Goes s f t n a k w r
-  event-next later more r took = go (w .event) (g .es) (g .end) (g .events) refl refl
+      → Takes t x (event (eventWith e)) (w .passed + 1) i (w .step) r)
+      → Goes s f t n a k x w r
+  event-next later more r takes = go (w .event) (g .es) (g .end) (g .events) refl refl
     where
       go : (at : ℕ) (es : List Event) (end : ℕ) → Events s at es end → w .event ≡ at → g .es ≡ es
-          → Goes s f t n a k w r
+          → Goes s f t n a k x w r
       go at [] end events x y = absurd (omega (arith, ap length y))
       go at (_ ∷ es) end (next-event e i found events) x y =
           let v = eventWith e in
@@ -150,20 +149,20 @@ module _ {s f : List ℕ} {t : Topology} {n : ℕ} {a : Answer} {k : ℕ} {w : P
           (rw y (weave-event (w .passed) n v es (g .ps) later))
           events (g .steps)
           (omega (arith, g .ahead, ap length y)) (omega (arith, g .all, ap length y)) (g .order)
-          (rw add-one at (took e i (rw x found) low))
+          (rw add-one at (takes e i (rw x found) low))
 
   -- What the event comes to, where there is one.
-  abbrev pub Event-took : Went → Type 0
-  Event-took r =
+  abbrev pub Event-takes : Next → Type 0
+  Event-takes r =
       (e : Numbers) (i : ℕ) → eventAt s (w .event) ≡ some (e, i) → w .passed < n
-      → Took t (attempt t (event (eventWith e)) (stateOf t (w .state))) (w .passed + 1) i (w .step) r
+      → Takes t x (event (eventWith e)) (w .passed + 1) i (w .step) r
 
   -- The event, where the next step comes later.
-  pub event-goes : (p : Step) (j : ℕ) (r : Went) → stepAt f (w .step) ≡ some (p, j) → w .passed < p .before
-      → Event-took r → Goes s f t n a k w r
-  event-goes p j r found later took = go (g .ps) refl
+  pub event-goes : (p : Step) (j : ℕ) (r : Next) → stepAt f (w .step) ≡ some (p, j) → w .passed < p .before
+      → Event-takes r → Goes s f t n a k x w r
+  event-goes p j r found later takes = go (g .ps) refl
     where
-      go : (ps : List Step) → g .ps ≡ ps → Goes s f t n a k w r
+      go : (ps : List Step) → g .ps ≡ ps → Goes s f t n a k x w r
       go [] e =
           let last = stops f (w .step) (rw e at (g .steps)) in
           clash (cc)
@@ -174,29 +173,29 @@ module _ {s f : List ℕ} {t : Topology} {n : ℕ} {a : Answer} {k : ℕ} {w : P
           let order = inOrder-cons (g .least) n q qs .0 (rw e at (g .order)) in
           let after : suc (w .passed) ≤ q .before = rw same later in
           event-next (rw e (inOrder-cons (suc (w .passed)) n q qs .1 (after, order .1, order .2)))
-          (omega (arith, g .all, order .1)) r took
+          (omega (arith, g .all, order .1)) r takes
 
   -- The event, where no step is left.
-  pub event-goes-last : (r : Went) → stepAt f (w .step) ≡ none → Event-took r → Goes s f t n a k w r
+  pub event-goes-last : (r : Next) → stepAt f (w .step) ≡ none → Event-takes r → Goes s f t n a k x w r
   unfolding inOrder
-  event-goes-last r absent took = go (g .ps) refl
+  event-goes-last r absent takes = go (g .ps) refl
     where
-      go : (ps : List Step) → g .ps ≡ ps → Goes s f t n a k w r
-      go [] e = event-next (rw e tt) (omega (arith, g .ahead, ap length e)) r took
+      go : (ps : List Step) → g .ps ≡ ps → Goes s f t n a k x w r
+      go [] e = event-next (rw e tt) (omega (arith, g .ahead, ap length e)) r takes
       go (q ∷ qs) e =
           let (first, rest) = walks f (w .step) (rw e at (g .steps)) in
           clash (cc)
 
 -- Where something is ahead, it is one thing and what remains.
-pub one-ahead : {s f : List ℕ} {t : Topology} {n : ℕ} {a : Answer} {k : ℕ} {w : Place}
-    → Stands s f t n a k w → 0 < k → Stands s f t n a (suc (k - 1)) w
-one-ahead {s} {f} {t} {n} {a} {k} {w} g h =
+pub one-ahead : {s f : List ℕ} {t : Topology} {n : ℕ} {a : Answer} {k : ℕ} {x : cxl0.State} {w : Place}
+    → Stands s f t n a k x w → 0 < k → Stands s f t n a (suc (k - 1)) x w
+one-ahead {s} {f} {t} {n} {a} {k} {x} {w} g h =
     let same : k ≡ suc (k - 1) = omega arith in
-    subst (λ (l : ℕ). Stands s f t n a l w) same g
+    subst (λ (l : ℕ). Stands s f t n a l x w) same g
 
 -- Where nothing is ahead, the answer is yes.
-pub stands-done : {s f : List ℕ} {t : Topology} {n : ℕ} {a : Answer} {k : ℕ} {w : Place}
-    → Stands s f t n a k w → k ≤ 0 → Answer.yes ≡ a
+pub stands-done : {s f : List ℕ} {t : Topology} {n : ℕ} {a : Answer} {k : ℕ} {x : cxl0.State} {w : Place}
+    → Stands s f t n a k x w → k ≤ 0 → Answer.yes ≡ a
 unfolding replayFrom weaveFrom steps
 stands-done {t} {w} g h =
     let no-events = no-elements (g .es) (omega (arith, g .ahead)) in

@@ -11,7 +11,6 @@ use reader::read;
 use schedules::FIRST;
 use schedules::Scheduled;
 use schedules::read_schedule;
-use states::State;
 use walking::Place;
 use walking::walk;
 ghost use mathlib.Core.Path.{_≡_};
@@ -42,7 +41,6 @@ fn replay_events(log: &[u8], schedule: &[u8], head: Head) -> Replayed
         Scheduled::Steps(steps) => {
             let ahead = head.events as usize + steps;
             let start = Place {
-                state: State::start(t),
                 passed: 0,
                 event: o.events,
                 step: FIRST,

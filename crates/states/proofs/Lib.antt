@@ -1,5 +1,6 @@
 pub mod Effects
 pub mod Filling
+pub mod Homes
 pub mod Starts
 pub mod After
 pub mod Settled

@@ -2,7 +2,7 @@
 use Prim.Native.Nat.{ℕ, zero, suc}
 use mathlib.Core.Bool.{Bool, false, cond, _&&_}
 use mathlib.Core.List.{List, [], _∷_}
-use lib.ListN.{getD, set}
+use lib.ListN.{getD}
 use Rattle.model.specs.Cxl0
 use Rattle.model.specs.Cxl0.{Location, Topology, initial, State, Action, possible}
 use Rattle.model.specs.OneLocation.{Local, expand, concerns, siteOf, effect}
@@ -12,7 +12,6 @@ use Rattle.model.specs.declared.Event as event
 use Rattle.model.specs.declared.Topology as topology
 use Rattle.entries.specs.Entries.{shortOf, entryOf, startEntry, emptyEntry, maskedTo}
 use Rattle.entries.specs.declared.Entry as entry
-use Rattle.entries.specs.declared.Acted as acted
 use Rattle.states.specs.declared.State as state
 use Rattle.states.specs.declared.Stepped as stepped
 
@@ -67,8 +66,3 @@ appliedOf t e s =
     cond (isOperation (e .operation))
     (steppedOf t (Cxl0.event (meant e)) s)
     (record { possible = false; state = s })
-
--- The answer to an action at location x: it is possible if it is admitted and enabled, and then the entry of
--- x is replaced.
-abbrev pub settle : Bool → acted.Acted → Location → state.State → stepped.Stepped
-settle b m x s = answer (b && m .enabled) (record { entries = set (s .entries) x (m .entry) }) s

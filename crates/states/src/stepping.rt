@@ -1,14 +1,13 @@
 // The steps of a whole system, one method for each event and each silent step.
 ghost use mathlib.Core.Path.{_≡_};
-ghost use mathlib.Core.Bool.{false, _&&_};
+ghost use mathlib.Core.Bool.{false, cond, _&&_};
 ghost use lib.Dec.{T};
-ghost use Rattle.model.specs.Cxl0.{start, event, LStore, RStore, MStore, Load, LFlush, RFlush, Crash, SetCrash};
-ghost use Rattle.model.specs.Cxl0.{RMW, L, R, M, silent, Propagate, WriteBack, named};
+ghost use Rattle.model.specs.Cxl0.{nowhere, start, event, LStore, RStore, MStore, Load, LFlush, RFlush};
+ghost use Rattle.model.specs.Cxl0.{Crash, SetCrash, RMW, L, R, M, silent, Propagate, WriteBack, named};
 ghost use Rattle.model.specs.OneLocation.{isCrash};
-ghost use Rattle.model.specs.Operations.{isOperation};
-ghost use Rattle.model.specs.Meaning.{topologyOf, withinLimits, attempt, meant, attemptEvent};
-ghost use Rattle.entries.specs.Entries.{maskedTo};
-ghost use Rattle.states.specs.States.{entryAt, stateOf, outcomeOf, settle};
+ghost use Rattle.model.specs.Operations.{isOperation, isLocated};
+ghost use Rattle.model.specs.Meaning.{homeOf, topologyOf, withinLimits, attempt, meant, attemptEvent};
+ghost use Rattle.states.specs.States.{stateOf, outcomeOf};
 ghost use Rattle.states.specs.States.{startState, stateAfter, steppedOf, appliedOf};
 use super::State;
 use super::Stepped;
@@ -17,9 +16,11 @@ use entries::EMPTY;
 use entries::Entry;
 use entries::Site;
 use model::Event;
+use model::Home;
 use model::LOCATIONS;
 use model::Location;
 use model::Machine;
+use model::NOWHERE;
 use model::Topology;
 
 // The event of an operation by its number, of which the event uses what it needs.
@@ -41,51 +42,44 @@ fn numbered(operation: u8, machine: Machine, location: Location, value: u32, wri
     }
 }
 
+// An entry after an action: what the action makes of it, if it is enabled.
+fn held_after(held: Entry, made: Acted) -> Entry
+    ensures { λ r. ⌜ r ≡ cond (made .enabled) (made .entry) held ⌝ }
+{
+    if made.enabled { made.entry } else { held }
+}
+
+// Where a location lives that is listed or not.
+fn home_if(listed: bool, home: Home) -> Home
+    ensures { λ r. ⌜ homeOf r ≡ cond listed (homeOf home) nowhere ⌝ }
+{
+    if listed { home } else { NOWHERE }
+}
+
 impl State {
-    // At the start no cache holds anything and memories hold their initial values.
+    // At the start no cache holds anything and memories hold their initial values. Where a location lives is looked up
+    // here, since a call would copy the topology.
     pub fn start(t: Topology) -> State
         ensures { λ r. ⌜ stateOf t r ≡ start (topologyOf t) ⌝ }
         ensures whole { λ r. ⌜ r ≡ startState t ⌝ }
     {
         let mut entries = [EMPTY; LOCATIONS];
+        let count = t.locations as usize;
         let mut at: usize = 0;
         while at < LOCATIONS {
-            let y = at as u8;
-            let h = t.home(Location(y));
+            let h = home_if(at < count, t.homes[at]);
             entries[at] = Entry::start(h.initial);
             at += 1;
         }
         State { entries }
     }
 
-    // The entry of a location, with the copies of the system's machines and no others.
-    fn entry(self, t: Topology, x: Location) -> Entry
-        ensures { λ r. ⌜ r ≡ maskedTo (t .machines) (entryAt self (x .0)) ⌝ }
+    // The answer to what is not possible.
+    fn refused(self) -> Stepped
+        ensures { λ r. ⌜ r ≡ record { possible = false; state = self } ⌝ }
     {
-        let at = x.0 as usize;
-        let n = t.machines;
-        if at < LOCATIONS {
-            let e = self.entries[at];
-            e.masked(n)
-        } else {
-            EMPTY.masked(n)
-        }
-    }
-
-    // The answer to an action at location x: possible if the topology admits it and x's entry enables it.
-    fn settled(mut self, admitted: bool, made: Acted, x: Location) -> Stepped
-        ensures { λ r. ⌜ r ≡ settle admitted made (x .0) self ⌝ }
-    {
-        let at = x.0 as usize;
-        let possible = admitted & made.enabled;
-        let after = made.entry;
-        if possible {
-            if at < LOCATIONS {
-                self.entries[at] = after;
-            }
-        }
         Stepped {
-            possible,
+            possible: false,
             state: self,
         }
     }
@@ -96,12 +90,13 @@ impl State {
         ensures { λ r. ⌜ r ≡ stateAfter t (event (meant e)) self ⌝ }
     {
         let n = t.machines;
+        let count = t.locations as usize;
         let mut at: usize = 0;
         while at < LOCATIONS {
             let held = self.entries[at];
             let y = at as u8;
-            let x = Location(y);
-            let made = held.masked(n).act(Site::of(t, x), e);
+            let home = home_if(at < count, t.homes[at]);
+            let made = held.masked(n).act(Site::at(t, Location(y), home), e);
             let after = made.entry;
             self.entries[at] = after;
             at += 1;
@@ -123,10 +118,7 @@ impl State {
                 state: self.crashed(t, e),
             }
         } else {
-            Stepped {
-                possible: false,
-                state: self,
-            }
+            self.refused()
         }
     }
 
@@ -150,30 +142,35 @@ impl State {
         self.crash_if(t, admitted, numbered(11, Machine(0), Location(set), 0, 0))
     }
 
-    // The step of a log's event, by its operation number.
-    pub fn apply(self, t: Topology, e: Event) -> Stepped
-        ensures { λ r. ⌜ outcomeOf t r ≡ attemptEvent t e (stateOf t self) ⌝ }
+    // The answer to an event at its location: what `Entry` makes of the entry there takes its place, if it is enabled.
+    fn at_location(mut self, t: Topology, e: Event) -> Stepped
+        requires { ⌜ T (isLocated (e .operation)) ⌝ }
+        ensures { λ r. ⌜ outcomeOf t r ≡ attempt t (event (meant e)) (stateOf t self) ⌝ }
         ensures kept { λ r. ⌜ (r .possible ≡ false → r .state ≡ self) ⌝ }
-        ensures whole { λ r. ⌜ r ≡ appliedOf t e self ⌝ }
+        ensures whole { λ r. ⌜ r ≡ steppedOf t (event (meant e)) self ⌝ }
     {
         let x = e.location;
-        if e.operation == 7 {
-            return self.crash(t, e.machine);
+        if !t.names(e.machine, x) {
+            return self.refused();
         }
-        if e.operation == 11 {
-            return self.set_crash(t, x.0);
+        let at = x.0 as usize;
+        let held = self.entries[at];
+        let made = held.masked(t.machines).act(Site::of(t, x), e);
+        let after = held_after(held, made);
+        self.entries[at] = after;
+        Stepped {
+            possible: made.enabled,
+            state: self,
         }
-        let made = self.entry(t, x).act(Site::of(t, x), e);
-        self.settled(t.names(e.machine, x), made, x)
     }
 
-    // The events of one location, each by its number.
+    // The events at a location, each by its number.
     pub fn l_store(self, t: Topology, i: Machine, x: Location, v: u32) -> Stepped
         ensures { λ r. ⌜ outcomeOf t r ≡ attempt t (event (LStore (i .0) (x .0) v)) (stateOf t self) ⌝ }
         ensures kept { λ r. ⌜ (r .possible ≡ false → r .state ≡ self) ⌝ }
         ensures whole { λ r. ⌜ r ≡ steppedOf t (event (LStore (i .0) (x .0) v)) self ⌝ }
     {
-        self.apply(t, numbered(1, i, x, v, 0))
+        self.at_location(t, numbered(1, i, x, v, 0))
     }
 
     pub fn r_store(self, t: Topology, i: Machine, x: Location, v: u32) -> Stepped
@@ -181,7 +178,7 @@ impl State {
         ensures kept { λ r. ⌜ (r .possible ≡ false → r .state ≡ self) ⌝ }
         ensures whole { λ r. ⌜ r ≡ steppedOf t (event (RStore (i .0) (x .0) v)) self ⌝ }
     {
-        self.apply(t, numbered(2, i, x, v, 0))
+        self.at_location(t, numbered(2, i, x, v, 0))
     }
 
     pub fn m_store(self, t: Topology, i: Machine, x: Location, v: u32) -> Stepped
@@ -189,7 +186,7 @@ impl State {
         ensures kept { λ r. ⌜ (r .possible ≡ false → r .state ≡ self) ⌝ }
         ensures whole { λ r. ⌜ r ≡ steppedOf t (event (MStore (i .0) (x .0) v)) self ⌝ }
     {
-        self.apply(t, numbered(3, i, x, v, 0))
+        self.at_location(t, numbered(3, i, x, v, 0))
     }
 
     pub fn load(self, t: Topology, i: Machine, x: Location, v: u32) -> Stepped
@@ -197,7 +194,7 @@ impl State {
         ensures kept { λ r. ⌜ (r .possible ≡ false → r .state ≡ self) ⌝ }
         ensures whole { λ r. ⌜ r ≡ steppedOf t (event (Load (i .0) (x .0) v)) self ⌝ }
     {
-        self.apply(t, numbered(4, i, x, v, 0))
+        self.at_location(t, numbered(4, i, x, v, 0))
     }
 
     pub fn l_flush(self, t: Topology, i: Machine, x: Location) -> Stepped
@@ -205,7 +202,7 @@ impl State {
         ensures kept { λ r. ⌜ (r .possible ≡ false → r .state ≡ self) ⌝ }
         ensures whole { λ r. ⌜ r ≡ steppedOf t (event (LFlush (i .0) (x .0))) self ⌝ }
     {
-        self.apply(t, numbered(5, i, x, 0, 0))
+        self.at_location(t, numbered(5, i, x, 0, 0))
     }
 
     pub fn r_flush(self, t: Topology, i: Machine, x: Location) -> Stepped
@@ -213,7 +210,7 @@ impl State {
         ensures kept { λ r. ⌜ (r .possible ≡ false → r .state ≡ self) ⌝ }
         ensures whole { λ r. ⌜ r ≡ steppedOf t (event (RFlush (i .0) (x .0))) self ⌝ }
     {
-        self.apply(t, numbered(6, i, x, 0, 0))
+        self.at_location(t, numbered(6, i, x, 0, 0))
     }
 
     // A load of v and the store of w, with nothing between them.
@@ -222,7 +219,7 @@ impl State {
         ensures kept { λ r. ⌜ (r .possible ≡ false → r .state ≡ self) ⌝ }
         ensures whole { λ r. ⌜ r ≡ steppedOf t (event (RMW L (i .0) (x .0) v w)) self ⌝ }
     {
-        self.apply(t, numbered(8, i, x, v, w))
+        self.at_location(t, numbered(8, i, x, v, w))
     }
 
     pub fn r_rmw(self, t: Topology, i: Machine, x: Location, v: u32, w: u32) -> Stepped
@@ -230,7 +227,7 @@ impl State {
         ensures kept { λ r. ⌜ (r .possible ≡ false → r .state ≡ self) ⌝ }
         ensures whole { λ r. ⌜ r ≡ steppedOf t (event (RMW R (i .0) (x .0) v w)) self ⌝ }
     {
-        self.apply(t, numbered(9, i, x, v, w))
+        self.at_location(t, numbered(9, i, x, v, w))
     }
 
     pub fn m_rmw(self, t: Topology, i: Machine, x: Location, v: u32, w: u32) -> Stepped
@@ -238,24 +235,72 @@ impl State {
         ensures kept { λ r. ⌜ (r .possible ≡ false → r .state ≡ self) ⌝ }
         ensures whole { λ r. ⌜ r ≡ steppedOf t (event (RMW M (i .0) (x .0) v w)) self ⌝ }
     {
-        self.apply(t, numbered(10, i, x, v, w))
+        self.at_location(t, numbered(10, i, x, v, w))
     }
 
-    pub fn propagate(self, t: Topology, i: Machine, x: Location) -> Stepped
+    pub fn propagate(mut self, t: Topology, i: Machine, x: Location) -> Stepped
         ensures { λ r. ⌜ outcomeOf t r ≡ attempt t (silent (Propagate (i .0) (x .0))) (stateOf t self) ⌝ }
         ensures kept { λ r. ⌜ (r .possible ≡ false → r .state ≡ self) ⌝ }
         ensures whole { λ r. ⌜ r ≡ steppedOf t (silent (Propagate (i .0) (x .0))) self ⌝ }
     {
-        let made = self.entry(t, x).propagate(Site::of(t, x), i);
-        self.settled(t.names(i, x), made, x)
+        if !t.names(i, x) {
+            return self.refused();
+        }
+        let at = x.0 as usize;
+        let held = self.entries[at];
+        let made = held.masked(t.machines).propagate(Site::of(t, x), i);
+        let after = held_after(held, made);
+        self.entries[at] = after;
+        Stepped {
+            possible: made.enabled,
+            state: self,
+        }
     }
 
-    pub fn write_back(self, t: Topology, x: Location) -> Stepped
+    pub fn write_back(mut self, t: Topology, x: Location) -> Stepped
         ensures { λ r. ⌜ outcomeOf t r ≡ attempt t (silent (WriteBack (x .0))) (stateOf t self) ⌝ }
         ensures kept { λ r. ⌜ (r .possible ≡ false → r .state ≡ self) ⌝ }
         ensures whole { λ r. ⌜ r ≡ steppedOf t (silent (WriteBack (x .0))) self ⌝ }
     {
-        let made = self.entry(t, x).write_back(Site::of(t, x));
-        self.settled(t.within_limits() & t.is_location(x), made, x)
+        if !(t.within_limits() & t.is_location(x)) {
+            return self.refused();
+        }
+        let at = x.0 as usize;
+        let held = self.entries[at];
+        let made = held.masked(t.machines).write_back(Site::of(t, x));
+        let after = held_after(held, made);
+        self.entries[at] = after;
+        Stepped {
+            possible: made.enabled,
+            state: self,
+        }
+    }
+
+    // The step of a log's event: its operation number chooses the method.
+    pub fn apply(self, t: Topology, e: Event) -> Stepped
+        ensures { λ r. ⌜ outcomeOf t r ≡ attemptEvent t e (stateOf t self) ⌝ }
+        ensures kept { λ r. ⌜ (r .possible ≡ false → r .state ≡ self) ⌝ }
+        ensures whole { λ r. ⌜ r ≡ appliedOf t e self ⌝ }
+    {
+        let i = e.machine;
+        let x = e.location;
+        let v = e.value;
+        let w = e.written;
+        let operation = e.operation;
+        match operation {
+            1 => self.l_store(t, i, x, v),
+            2 => self.r_store(t, i, x, v),
+            3 => self.m_store(t, i, x, v),
+            4 => self.load(t, i, x, v),
+            5 => self.l_flush(t, i, x),
+            6 => self.r_flush(t, i, x),
+            7 => self.crash(t, i),
+            8 => self.l_rmw(t, i, x, v, w),
+            9 => self.r_rmw(t, i, x, v, w),
+            10 => self.m_rmw(t, i, x, v, w),
+            11 => self.set_crash(t, x.0),
+            0 => self.refused(),
+            12..=255 => self.refused(),
+        }
     }
 }

@@ -42,12 +42,12 @@ add-ahead c = omega (arith, count-few _ _ _ _ (told (c .before .before)))
 
 returns : tie.Need-returns
 returns c = λ r e h.
-    let b = c .before .before .before .before in
+    let b = c .before .before .before in
     let first = b .before .before .before .before in
     let opened = opens first r e h in
     let events = ap (λ (k : Head). k .events) h in
     let (ps, read, count) = steps-read _ _ (told b) in
-    let stands = stands-first _ ps _ opened read events (c .before .start .ensures .0) refl refl refl in
+    let stands = stands-first _ ps _ opened read events refl refl refl in
     c .walk .ensures _ (rw count at stands) ∙ sym (with-steps r _ _ _ (opened .system) events ps read)
 
 returns-2 : tie.Need-returns-2
@@ -68,7 +68,6 @@ replay-events-spec =
     (λ c. search needs)
     (λ c. search needs)
     add-ahead
-    (λ c κs. search needs)
     (λ c κs. search needs)
     (λ c. search needs)
     returns

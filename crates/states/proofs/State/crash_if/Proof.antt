@@ -5,6 +5,7 @@ use lib.ListN.{length}
 use Rattle.model.specs.Cxl0.{event, possible}
 use Rattle.model.specs.Meaning.{topologyOf, withinLimits, meant}
 use Rattle.states.specs.States.{stateOf}
+use Rattle.model.proofs.Tests.{nothing}
 use Rattle.model.proofs.Limits.{mapped}
 use Rattle.states.proofs.After.{answered}
 use Rattle.states.proofs.Crashes.{can}
@@ -33,8 +34,8 @@ returns c =
 
 returns-2 : tie.Need-returns-2
 returns-2 c =
-    let start = c .before in
-    answered _ _ _ (room start) (tested start _ (c .if1 .left)) refl refl
+    let start = c .before .before in
+    answered _ _ _ (room start) (tested start _ (c .before .if1 .left)) refl (c .refused .ensures)
 
 pub crash-if-spec : {M : Type 1} → statement M
-crash-if-spec = tie.close (tie.spec crashed-requires returns returns-2)
+crash-if-spec = tie.close (tie.spec crashed-requires nothing returns returns-2)

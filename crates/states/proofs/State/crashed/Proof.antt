@@ -2,23 +2,28 @@
 -- them, and the others are as they were.
 use Prim.Native.Nat.{ℕ, _-_}
 use native.Mathlib.Omega.{arith}
-use mathlib.Core.Path.{_≡_, sym, _∙_}
+use mathlib.Core.Path.{_≡_, sym, ap₂, _∙_}
+use borrow.Author.Needs.{needs}
 use borrow.Author.Tests.{le-ltb}
 use lib.ListN.{length, length-set}
+use Rattle.model.specs.OneLocation.{Site}
 use Rattle.model.specs.Meaning.{meant}
+use Rattle.entries.specs.Entries.{actedBy}
+use Rattle.entries.specs.declared.Entry as entry
 use Rattle.model.proofs.Tests.{nothing}
 use Rattle.model.proofs.Limits.{mapped}
 use Rattle.states.specs.States.{entryAt}
+use Rattle.states.proofs.Homes.{site-found}
 use Rattle.states.proofs.Crashes.{partly, turn, done, entry-made}
 use Rattle.states.proofs.State.crashed.Statement.{statement}
 use Rattle.states.proofs.State.crashed.Tie as tie
 
 abbrev Inv-loop : tie.InvT-loop
-Inv-loop t e self₀ n at₀ self at =
+Inv-loop e self₀ t n count at₀ self at =
     (length (self .entries) ≡ 32) × ((y : ℕ) → entryAt self y ≡ partly t (meant e) self₀ at y)
 
 abbrev μ-loop : tie.MeasureT-loop
-μ-loop t e self₀ n at₀ self at = 32 - at
+μ-loop e self₀ t n count at₀ self at = 32 - at
 
 room : (c : tie.Start Inv-loop μ-loop) → length (c .args .t1 .entries) ≡ 32
 room c = search mapped
@@ -26,26 +31,8 @@ room c = search mapped
 loop-holds : tie.Need-loop-holds Inv-loop μ-loop
 loop-holds c = (room c, λ y. rw (le-ltb y 0 (omega arith)))
 
-mul-held : tie.Need-mul-held Inv-loop μ-loop
-mul-held c = omega arith
-
-element-copy-out-held : tie.Need-element-copy-out-held Inv-loop μ-loop
-element-copy-out-held c = omega arith
-
-cast-y : tie.Need-cast-y Inv-loop μ-loop
-cast-y c = omega arith
-
-mul-after : tie.Need-mul-after Inv-loop μ-loop
-mul-after c = omega arith
-
-element-set-from-after : tie.Need-element-set-from-after Inv-loop μ-loop
-element-set-from-after c = omega arith
-
-add-at : tie.Need-add-at Inv-loop μ-loop
-add-at c = omega arith
-
-loop-less : tie.Need-loop-less Inv-loop μ-loop
-loop-less c = omega arith
+homes : (c : tie.Start Inv-loop μ-loop) → length (c .args .t2 .homes) ≡ 32
+homes c = search mapped
 
 loop-again : tie.Need-loop-again Inv-loop μ-loop
 unfolding entryAt
@@ -53,19 +40,24 @@ loop-again c =
     let made = c .before in
     let site = made .before in
     let held = site .before in
-    let h = held .before .before .before .before .args in
-    let start = held .before .before .before .before in
-    let l = held .before .before .before .loop in
-    let acts = rw (site .of .ensures .0, held .masked .ensures) at (made .act .ensures) in
-    let after = entry-made (h .t) (h .e) (l .at) (entryAt (l .self) (l .at)) (start .pre .0) acts in
-    let next = turn (h .t) (meant (h .e)) (h .t1) (l .self) (l .at) (l .inv .1) _ in
+    let found = held .before in
+    let turn-of = found .before .before .before in
+    let start = turn-of .before .before in
+    let h = start .args in
+    let l = turn-of .before .loop in
+    let site-is = site-found (h .t2) (homes start) (l .at) (found .home-if .ensures) (site .at .ensures .0) in
+    let acts =
+    made .act .ensures
+    ∙ ap₂ (λ (k : Site) (held : entry.Entry). actedBy k (h .e) held) site-is (held .masked .ensures) in
+    let after = entry-made (h .t2) (h .e) (l .at) (entryAt (l .self) (l .at)) (start .pre .0) acts in
+    let next = turn (h .t2) (meant (h .e)) (h .t1) (l .self) (l .at) (l .inv .1) _ in
     (length-set (l .self .entries) _ _ ∙ l .inv .0, next (omega (arith, l .inv .0)) after)
 
 returns : tie.Need-returns Inv-loop μ-loop
 returns c =
     let h = c .before .before in
     let l = c .before .loop in
-    let all = done (h .args .t) (meant (h .args .e)) (h .args .t1) (l .self) (l .at) (l .inv .1) (h .pre .1) in
+    let all = done (h .args .t2) (meant (h .args .e)) (h .args .t1) (l .self) (l .at) (l .inv .1) (h .pre .1) in
     all (l .inv .0 ∙ sym (room h)) (omega (arith, room h))
 
 pub crashed-spec : {M : Type 1} → statement M
@@ -74,16 +66,20 @@ crashed-spec =
     (tie.spec
     Inv-loop
     μ-loop
+    (λ c. search needs)
     loop-holds
-    mul-held
-    element-copy-out-held
-    cast-y
+    (λ c. search needs)
+    (λ c. search needs)
+    (λ c. search needs)
+    (λ c. search needs)
+    (λ c. search needs)
     nothing
     nothing
     nothing
-    mul-after
-    element-set-from-after
-    add-at
-    loop-less
+    nothing
+    (λ c. search needs)
+    (λ c. search needs)
+    (λ c. search needs)
+    (λ c. search needs)
     loop-again
     returns)

@@ -16,18 +16,19 @@ use Rattle.states.specs.declared.State as state
 use Rattle.model.proofs.Tests.{nothing}
 use Rattle.model.proofs.Limits.{mapped}
 use Rattle.states.proofs.Filling.{one-more}
+use Rattle.states.proofs.Homes.{home-found}
 use Rattle.states.proofs.Starts.{partly, all-filled, begun}
 use Rattle.states.proofs.State.start.Statement.{statement}
 use Rattle.states.proofs.State.start.Tie as tie
 
 abbrev Inv-loop : tie.InvT-loop
-Inv-loop t entries₀ at₀ entries at =
+Inv-loop t entries₀ count at₀ entries at =
     (length entries ≡ 32) × ((y : ℕ) → getD entries y emptyEntry ≡ partly t at y)
 
 abbrev μ-loop : tie.MeasureT-loop
-μ-loop t entries₀ at₀ entries at = 32 - at
+μ-loop t entries₀ count at₀ entries at = 32 - at
 
-room : (c : tie.Start Inv-loop μ-loop) → length (c .args .t .homes) ≡ 32
+room : (c : tie.Start Inv-loop μ-loop) → length (c .args .t1 .homes) ≡ 32
 room c = search mapped
 
 same : (k x : ℕ) (e : entry.Entry) → getD (replicate k e) x e ≡ e
@@ -41,10 +42,13 @@ loop-holds c = (refl, λ y. rw (le-ltb y 0 (omega arith)) (same 32 y emptyEntry)
 loop-again : tie.Need-loop-again Inv-loop μ-loop
 unfolding initial
 loop-again c =
-    let filled = c .before in
-    let l = filled .before .before .loop in
-    let sys = topologyOf (filled .before .before .before .args .t) in
-    let value = c .start .ensures ∙ ap (λ (h : Home). startEntry (h .initial)) (filled .home .ensures) in
+    let found = c .before in
+    let turn = found .before .before in
+    let h = turn .before .before in
+    let l = turn .before .loop in
+    let sys = topologyOf (h .args .t1) in
+    let home = found .home-if .ensures ∙ home-found (h .args .t1) (room h) (l .at) in
+    let value = c .start .ensures ∙ ap (λ (h : Home). startEntry (h .initial)) home in
     let next = one-more emptyEntry (λ y. startEntry (initial sys y)) (λ y. emptyEntry) (l .entries) (l .at) in
     (length-set (l .entries) _ _ ∙ l .inv .0, next (l .inv .1) (omega (arith, l .inv .0)) _ value)
 
@@ -57,7 +61,7 @@ returns : tie.Need-returns Inv-loop μ-loop
 returns c =
     let h = c .before .before in
     let l = c .before .loop in
-    right (h .args .t) (room h) (all-filled (h .args .t) (l .entries) (l .at) (l .inv .0) (omega arith) (l .inv .1))
+    right (h .args .t1) (room h) (all-filled (h .args .t1) (l .entries) (l .at) (l .inv .0) (omega arith) (l .inv .1))
 
 pub start-spec : {M : Type 1} → statement M
 start-spec =
@@ -65,7 +69,9 @@ start-spec =
     (tie.spec
     Inv-loop
     μ-loop
+    (λ c. search needs)
     loop-holds
+    (λ c. search needs)
     (λ c. search needs)
     nothing
     nothing
