@@ -1,3 +1,3 @@
 #!/usr/bin/env bash
-# Every public function has an `ensures`, and none outside the internal crates has a `requires`.
+# Every public function has an `ensures`, and no call that users make has a `requires`.
 python3 -B tests/contracts.py

@@ -1,8 +1,8 @@
 // The levels of a task: for each gap of a stretch of events without a store, the codes from which it can be finished
 // within so many silent steps, as a mask. A pass makes them of those of one step less.
 //
-// Internal: only crates of this project call it, and they meet what it requires. The scratch area has 4,096 words, the
-// events are known, and the bounds of a task are right.
+// Its callers see to it that the scratch area has 4,096 words, the events are known, and the bounds of a task are
+// right.
 use masks::all;
 use masks::all_but_empty;
 use masks::contains;

@@ -2,8 +2,8 @@
 // a call says which codes are in the mask that it gives; union and intersection are `|` and `&`, with their
 // laws in proofs/Sets.antt. Each call is a few shifts and constants; none loops over the codes.
 //
-// Internal: only crates of this project call it, and they meet what it requires. A machine's number is 1
-// to 6, a code is below 64, and `lowest` is given a mask that is not 0.
+// Its callers see to it that a machine's number is 1 to 6, that a code is below 64, and that `lowest` is given a mask
+// that is not 0.
 use model::Machine;
 ghost use mathlib.Core.Path.{_≡_};
 ghost use mathlib.Core.Bool.{true, cond, not, _&&_};

@@ -1,8 +1,8 @@
 // The scratch area: where its regions begin, as specs/Layout.antt has them, and the words of events, rows, the
 // values of the copies, and the waypoints of the walk, as specs/Words.antt has them; clearing it.
 //
-// Internal: only crates of this project call it, and they meet what it requires. The scratch area has at
-// least 4,096 words, an event's number is below 129, and a row's is at most 129.
+// Its callers see to it that the scratch area has at least 4,096 words, an event's number is below 129, and a row's is
+// at most 129.
 use model::Event;
 use model::Location;
 use model::Machine;

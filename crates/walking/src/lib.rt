@@ -1,9 +1,8 @@
 // The walk of one location over rows: before each event, the silent steps that lead to a state from which the event
 // is possible and the events after it can be finished.
 //
-// Internal: only crates of this project call it, and they meet what it requires. The rows are there, the
-// events have a run from where the walk begins, and they are known, so that none comes to the arms of refused
-// operations.
+// Its callers see to it that the rows are there, that the events have a run from where the walk begins, and that they
+// are known, so that none comes to the arms of refused operations.
 use entries::Acted;
 use entries::Entry;
 use entries::Site;

@@ -1,8 +1,6 @@
 // Is there a run of the events in the scratch area, and which? `weigh` visits the locations one after the other, each
 // with only the events that matter there, and puts the steps that it found in order. The events stay in the area, so
 // that with others after them they can be weighed again. specs/Weighing.antt says what it answers and leaves.
-//
-// Internal: only crates of this project call it, and they meet what it requires.
 mod visiting;
 
 use model::Topology;
