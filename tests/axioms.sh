@@ -1,9 +1,9 @@
 #!/usr/bin/env bash
-# No proof rests on an axiom. A check refuses the axioms of antt and of a crate; what it may assume is the contract of a C
-# function. The last line of a check, 'logic=proved ..', names after 'foreign=' those that the crate declares. That of a
-# program or a static library counts after 'axioms=' those that its proof reaches in any crate, and a line 'axioms LIBRARY: ..'
-# names them; the check of a plain library is silent about these. So each library that no other crate uses is checked as a
-# static library. The programs rest on read and write of the C library, and on nothing else.
+# No proof rests on an axiom. A check refuses the axioms of antt and of a crate; what it may assume is the contract of a
+# C function. The last line of a check, 'logic=proved ..', names after 'foreign=' those that the crate declares. That of
+# a program or a static library counts after 'axioms=' those that its proof reaches in any crate, and a line
+# 'axioms LIBRARY: ..' names them; the check of a plain library is silent about these. So each library that no other
+# crate uses is checked as a static library. The programs rest on read and write of the C library, and on nothing else.
 set -u
 cd "$(dirname "$0")/.." || exit 2
 fails=0
@@ -35,7 +35,7 @@ try_itself() {
     room=$(mktemp -d)
     mkdir -p "$room"/crates/{calls,declares}/src
     printf 'calls: io libc\ndeclares:\n' >"$room/crates.txt"
-    echo '#[no_mangle] pub extern "C" fn put(buf: &[u8]) -> bool { io::write_all(1, buf) }' >"$room/crates/calls/src/lib.rt"
+    echo 'pub fn put(buf: &[u8]) -> bool { io::write_all(1, buf) }' >"$room/crates/calls/src/lib.rt"
     echo 'extern "C" { fn c() -> u8; } pub fn call() -> u8 { c() }' >"$room/crates/declares/src/lib.rt"
     expect "a library that writes" 'libc: libc::write axioms=1' < <(cd "$room" && rt staticlib calls 2>&1)
     expect "a library with a C function" 'foreign=declares::c' < <(cd "$room" && rt check declares 2>&1)

@@ -1,8 +1,8 @@
 #!/usr/bin/env python3
 """Every public function says what it returns, and no call that users make has a `requires`.
 
-Users call the libraries that are not in INTERNAL. Fails on a public function of a library without an `ensures`, on one with a
-`requires` outside INTERNAL, and on a name in INTERNAL that needs not stand there.
+Users call the libraries that are not in INTERNAL. Fails on a public function of a library without an `ensures`, on
+one with a `requires` outside INTERNAL, and on a name in INTERNAL that needs not stand there.
 """
 import pathlib
 import re
@@ -12,7 +12,9 @@ ROOT = pathlib.Path(__file__).resolve().parent.parent
 sys.path.insert(0, str(ROOT / "tools"))
 import antt  # noqa: E402
 # Only crates of this project call these, and each call is proved to meet what is required.
-INTERNAL = {"blocks", "events", "levels", "masks", "rows", "scratch", "search", "segments", "sorting", "walking", "weighing"}
+INTERNAL = {
+    "blocks", "events", "levels", "masks", "rows", "scratch", "search", "segments", "sorting", "walking", "weighing",
+}
 PUBLIC = re.compile(r'^ *pub (?:extern "C" )?fn ', flags=re.M)
 
 
@@ -39,8 +41,10 @@ def main():
                 requiring.add(crate)
                 if crate not in INTERNAL:
                     faults.append(f"{where} has a requires")
-    faults += [f"{crate} is in INTERNAL, and none of its public functions has a requires" for crate in INTERNAL - requiring]
-    print("\n".join(faults + [f"{functions} public functions of {len(libraries)} libraries, {len(INTERNAL)} of them internal"]))
+    for crate in sorted(INTERNAL - requiring):
+        faults.append(f"{crate} is in INTERNAL, and none of its public functions has a requires")
+    counted = f"{functions} public functions of {len(libraries)} libraries, {len(INTERNAL)} of them internal"
+    print("\n".join(faults + [counted]))
     sys.exit(bool(faults))
 
 

@@ -1,13 +1,18 @@
-"""The wrong programs of the parts, crates/*/must-fail/parts/*.edit: the checker must refuse each.
+"""The wrong programs, crates/*/must-fail/**/*.edit: the checker must refuse each, for the reason that the page has.
 
-`rt ci` tries the edits of crates/*/must-fail itself, each from nothing. Those below parts/ are tried here by `rt dev`, in a copy of
-their crate over an incremental folder that the unchanged crate has filled: an edit then checks only what it changes and what
-rests on that. A refusal so comes from modules that were checked with the edit, and an edit that passes fails the gate.
+`rt ci` tries the edits of crates/*/must-fail itself, each from nothing; its logs are judged here. Those below parts/
+are tried here by `rt dev`, in a copy of their crate over an incremental folder that the unchanged crate has filled: an
+edit then checks only what it changes and what rests on that. A refusal so comes from modules that were checked with
+the edit.
 
-Of all edits it is asked besides that docs/WRONG-PROGRAMS.md has them, and no others, and that none does no more than make a proof
-file unfit for the code (`unfit`), which shows nothing of the contract.
+An edit passes if the first fact to fail is the one that docs/WRONG-PROGRAMS.md has in its column "refused by", and
+fails since it no longer holds. Where a tactic or a name of the proof no longer fits the code, nothing is shown of the
+contract.
 
-Words: crates to try, as in `python3 tests/wrong_programs.py entries rows`; none: all. The last line is 'N passed, M failed'.
+    python3 tests/wrong_programs.py [CRATE..]                 the edits of these crates, or of all
+    python3 tests/wrong_programs.py --from-nothing [CRATE..]  the same, each of the parts by a check of its whole crate
+
+RT_JOBS is the number of crates at a time. The last line is 'N passed, M failed'.
 """
 import os
 import pathlib
@@ -22,10 +27,42 @@ from concurrent.futures import ThreadPoolExecutor
 ROOT = pathlib.Path(__file__).resolve().parent.parent
 TARGET = ROOT / "target"
 PAGE = ROOT / "docs" / "WRONG-PROGRAMS.md"
+FROM_NOTHING = "--from-nothing"
+
+# Edits that show nothing yet, by name, each with the reason. One that passes after all fails the script.
+SHOWS_NOTHING = {}
+
+# An error of the check: its file, the fact, and what is said of it, which goes on over the indented lines below.
+ERROR = re.compile(r"^\S*/(?:must-fail/\w+/\w+|crates/\w+)/((?:src|specs|proofs)/\S+?):\d+:\d+: error: (?:`([^`]+)`: )?"
+                   r"(.*(?:\n[ \t].*)*)", re.M)
+# Such an error only waits for a fact that failed elsewhere.
+WAITS = re.compile(r"`[^`]*` was not admitted")
+# A function without a proof file, and the facts that the checker did not find by itself.
+UNPROVED = re.compile(r"^fn \w+::(\S+): no proof: .*; `search` does not close (.*)$", re.M)
+# The proof no longer fits the code: a name is gone, a rewrite finds nothing, or a place of the code is another one.
+MISFIT = re.compile(r"is not in scope|has no field|no occurrence|differ only where one has `\S+\.Lts\.[A-Z][\w-]*`")
 
 
 def edits_of(crate):
-    return sorted((ROOT / "crates" / crate / "must-fail" / "parts").glob("*.edit"))
+    return sorted((ROOT / "crates" / crate / "must-fail").glob("**/*.edit"))
+
+
+def name_of(edit):
+    return f"{edit.relative_to(ROOT / 'crates').parts[0]}/{edit.stem}"
+
+
+def log_of(edit):
+    return TARGET / "must-fail" / name_of(edit) / ".log"
+
+
+def page():
+    """What the page says of each edit, in front of the first colon of the last column: where, and which facts."""
+    rows, words = {}, []
+    for name, cell in re.findall(r"\| `(\w+/\w+)` \| (.*) \|$", PAGE.read_text(), re.M):
+        if cell != "the same":
+            words = re.findall(r"`([^`]+)`", cell.split(": ")[0])
+        rows.setdefault(name, []).append(words)
+    return rows
 
 
 def apply(edit, crate):
@@ -51,7 +88,7 @@ def apply(edit, crate):
 
 
 def room(crate, place):
-    """A repository in which only this crate is a copy; the others, and what is proved of them, are those of this one."""
+    """A repository in which only this crate is a copy; the others, and what is proved of them, are this one's."""
     (place / "crates").mkdir()
     shutil.copy(ROOT / "crates.txt", place)
     for other in (ROOT / "crates").iterdir():
@@ -63,87 +100,129 @@ def room(crate, place):
     shutil.copytree(TARGET / "stamp", place / "target" / "stamp")
 
 
-def check(crate, place):
+def check(crate, place, whole):
+    """What the check of the copy prints: of the whole of it, or of what has changed since the check before."""
+    if whole:
+        shutil.rmtree(place / "target" / "inc", ignore_errors=True)
     run = subprocess.run(["rt", "dev", crate], cwd=place, text=True, stdout=subprocess.PIPE, stderr=subprocess.STDOUT)
-    return run.returncode, run.stdout
+    return run.stdout
 
 
-def unfit(log):
-    """The proof file asks for a place that the code no longer has, or the first error is a name that is not there."""
-    # an error goes on over the indented lines under it
-    first = re.search(r": error: .*(?:\n[ \t].*)*", log)
-    return "has no `Need" in log or bool(first and re.search(r"has no field|is not in scope", first[0]))
+def facts(log):
+    """The facts that fail, in the order of the log: where, its name, and what is said of it.
+
+    Where is a function of the crate, as `writing::put_end`, or a file of laws, as `proofs/Expand.antt`.
+    """
+    found = []
+    for file, fact, said in ERROR.findall(log):
+        if not WAITS.match(said):
+            # functions that call each other share a folder whose name begins with '+'
+            function = re.fullmatch(r"proofs/(.*)/Proof\.antt", file)
+            found.append((function[1].replace("+", "").replace("/", "::") if function else file, fact, said))
+    for function, names in UNPROVED.findall(log):
+        found += [(function, fact, "") for fact in re.findall(r"`([^`]+)`", names)]
+    return found
 
 
-def judged(status, log):
-    """Why the edit counts as not refused, or None; and where the first error is."""
-    first = re.search(r"^\S*/((?:src|specs|proofs)/\S+): error", log, re.M)
-    if status == 0:
-        return "NOT REFUSED: the crate is still proved with this edit", None
-    if status != 1 or not re.search(r"^logic=not-proved", log, re.M):
-        return f"BAD EDIT: it did not reach the prover (status {status})", None
-    if unfit(log):
-        return "BAD EDIT: the proof file does not fit the code, which shows nothing of the contract", None
-    return None, first[1] if first else "no place printed"
+def fault(log, rows):
+    """Why an edit with this log does not pass, or None; rows are what the page says of it."""
+    if re.search(r"^logic=proved", log, re.M):
+        return "NOT REFUSED: the crate is still proved with this edit"
+    if not re.search(r"^logic=not-proved", log, re.M):
+        return "BAD EDIT: it did not reach the prover"
+    failing = facts(log)
+    if not failing or "has no `Need" in log:
+        return "SHOWS NOTHING: the proof file does not fit the code"
+    where, fact, said = failing[0]
+    if MISFIT.search(said):
+        return f"SHOWS NOTHING: {where}, {fact}: {said.splitlines()[0]}"
+    there = {name for place, name, _ in failing if place == where}
+    for words in rows:
+        if words[:2] != [where, fact] or not there.issuperset(words[1:]):
+            return f"ANOTHER FACT: the page has {', '.join(words)}, and the first one to fail is {where}, {fact}"
+    return None
 
 
-def try_crate(crate):
-    """Tries the edits of a crate; gives a line for each, with whether it passed."""
-    lines = []
+def verdict(edit, log, rows, took=""):
+    """Whether an edit passes, and the line that says so."""
+    name = name_of(edit)
+    why = fault(log, rows.get(name, []))
+    if name in SHOWS_NOTHING and why is None:
+        return False, f"{name}: PASSES, and is listed as one that shows nothing"
+    if name in SHOWS_NOTHING and why.startswith(("SHOWS NOTHING", "ANOTHER FACT")):
+        return True, f"{name}: refused, and shows nothing, as is listed ({SHOWS_NOTHING[name]})"
+    if why:
+        return False, f"{name}: {why}"
+    where, fact, _ = facts(log)[0]
+    return True, f"{name}: refused, as it must be (first {where}, {fact}{took})"
+
+
+def is_tried(edit):
+    """Whether `rt ci` has tried the edit: its log is younger than all that the crate has."""
+    crate = edit.parent.parent
+    files = [path for part in ("src", "specs", "proofs") for path in (crate / part).rglob("*")] + [edit]
+    log = log_of(edit)
+    return (edit.parent.name != "parts" and log.is_file()
+            and log.stat().st_mtime > max(path.stat().st_mtime for path in files))
+
+
+def try_edit(edit, copy, place, rows, whole):
+    """Tries one edit in the copy of its crate and leaves the log where `rt ci` leaves its own."""
+    began = time.time()
+    try:
+        was = apply(edit, copy)
+    except ValueError as why:
+        return False, f"{name_of(edit)}: BAD EDIT: {why}"
+    log = check(copy.name, place, whole)
+    for file, text in was.items():
+        file.write_text(text)
+    log_of(edit).parent.mkdir(parents=True, exist_ok=True)
+    log_of(edit).write_text(log)
+    return verdict(edit, log, rows, f"; {time.time() - began:.0f} s")
+
+
+def try_crate(crate, rows, whole):
+    """The verdict of each edit of a crate."""
+    tried = {edit: is_tried(edit) for edit in edits_of(crate)}
+    lines = [verdict(edit, log_of(edit).read_text(), rows) for edit in tried if tried[edit]]
+    if all(tried.values()):
+        return lines
     with tempfile.TemporaryDirectory() as folder:
         place = pathlib.Path(folder)
         room(crate, place)
-        status, log = check(crate, place)
-        if status != 0:
-            return [(False, f"{crate}: not proved without an edit\n{log[-2000:]}")]
-        for edit in edits_of(crate):
-            name = f"{crate}/{edit.stem}"
-            began = time.time()
-            try:
-                was = apply(edit, place / "crates" / crate)
-            except ValueError as why:
-                lines.append((False, f"{name}: BAD EDIT: {why}"))
-                continue
-            status, log = check(crate, place)
-            for file, text in was.items():
-                file.write_text(text)
-            kept = TARGET / "must-fail" / crate / edit.stem
-            kept.mkdir(parents=True, exist_ok=True)
-            (kept / ".log").write_text(log)
-            why, first = judged(status, log)
-            took = f"{time.time() - began:.0f} s"
-            lines.append((why is None, f"{name}: {why or f'refused, as it must be (first at {first}; {took})'}"))
-    return lines
+        log = "" if whole else check(crate, place, whole)
+        if "logic=not-proved" in log:
+            return lines + [(False, f"{crate}: not proved without an edit\n{log[-2000:]}")]
+        copy = place / "crates" / crate
+        return lines + [try_edit(edit, copy, place, rows, whole) for edit in tried if not tried[edit]]
 
 
-def strays():
-    """The edits that the page does not have, and the names on the page that are no edit's."""
-    there = {f"{edit.relative_to(ROOT / 'crates').parts[0]}/{edit.stem}" for edit in ROOT.glob("crates/*/must-fail/**/*.edit")}
-    told = set(re.findall(r"\| `(\w+/\w+)` \|", PAGE.read_text()))
-    return [f"{name}: not on the page" for name in sorted(there - told)] + [
-        f"{name}: on the page, and no edit" for name in sorted(told - there)]
+def strays(rows):
+    """The edits that the page does not have, and the names on the page or in the list that are no edit's."""
+    there = {name_of(edit) for edit in ROOT.glob("crates/*/must-fail/**/*.edit")}
+    return [(False, f"{name}: not on the page") for name in sorted(there - rows.keys())] + [
+        (False, f"{name}: no edit") for name in sorted((rows.keys() | SHOWS_NOTHING.keys()) - there)]
 
 
 def main():
-    crates = sys.argv[1:] or sorted(d.name for d in (ROOT / "crates").iterdir() if edits_of(d.name))
-    wrong = strays()
-    wrong += [f"{log.parent.parent.name}/{log.parent.name}: the proof file does not fit the code"
-              for log in TARGET.glob("must-fail/*/*/.log") if unfit(log.read_text())]
-    for line in wrong:
-        print(f"FAIL {line}")
-    passed, failed = 0, len(wrong)
-    if subprocess.run(["rt", "check", *crates], cwd=ROOT, stdout=subprocess.DEVNULL).returncode != 0:
-        print("FAIL a crate is not proved: rt check says which")
-        failed += 1
-        crates = []
+    crates = [word for word in sys.argv[1:] if word != FROM_NOTHING]
+    crates = crates or [folder.name for folder in (ROOT / "crates").iterdir() if edits_of(folder.name)]
     crates.sort(key=lambda crate: -len(edits_of(crate)))
-    with ThreadPoolExecutor(os.cpu_count()) as pool:
-        for lines in pool.map(try_crate, crates):
+    rows, whole = page(), FROM_NOTHING in sys.argv
+    results = strays(rows)
+    if subprocess.run(["rt", "check", *crates], cwd=ROOT, stdout=subprocess.DEVNULL).returncode != 0:
+        results.append((False, "a crate is not proved: rt check says which"))
+        crates = []
+    for _, line in results:
+        print(f"FAIL {line}")
+    with ThreadPoolExecutor(int(os.environ.get("RT_JOBS") or os.cpu_count())) as pool:
+        for lines in pool.map(lambda crate: try_crate(crate, rows, whole), crates):
             for good, line in lines:
                 print(("ok   " if good else "FAIL ") + line, flush=True)
-                passed, failed = passed + good, failed + (not good)
-    print(f"{passed} passed, {failed} failed")
-    return failed > 0
+            results += lines
+    passed = sum(good for good, _ in results)
+    print(f"{passed} passed, {len(results) - passed} failed")
+    return passed < len(results)
 
 
 if __name__ == "__main__":

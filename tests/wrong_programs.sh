@@ -1,3 +1,3 @@
 #!/usr/bin/env bash
-# Every wrong program of a part is refused, and docs/WRONG-PROGRAMS.md has every edit.
+# Every wrong program is refused by the fact that docs/WRONG-PROGRAMS.md has for it, and the page has every one.
 python3 -B tests/wrong_programs.py

@@ -1,4 +1,4 @@
-pub mod Shortcuts
+pub mod AgainstShortcuts
 pub mod Examples
 pub mod Tests
 pub mod Machines

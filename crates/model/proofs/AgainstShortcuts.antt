@@ -1,5 +1,6 @@
 -- For each false shortcut of document 01, and of requests W-201 to W-203, that concerns the model, a list of actions
--- that tells it from CXL0: the list is a run, or is none, by computation from the definitions alone.
+-- that tells it from CXL0: the list is a run, or is none, by computation from the definitions alone. The checker goes
+-- through the modules by their names: with this one first, a wrong definition is told by this test before any law.
 use mathlib.Core.Bool.{Bool, true, false, not, _&&_}
 use mathlib.Core.List.{List, [], _∷_}
 use lib.Dec.{T}
