@@ -3,7 +3,7 @@
 //! (`0-1 search`), one for what each state has to pay to the end, with a walk behind it (`0-1 costs`).
 //!
 //!     bench                      every table
-//!     bench one CORPUS EDITION   the proved judge and the proved converter on one log of a corpus, once, for counting
+//!     bench one CORPUS EDITION   the proved judge, replay and converter on one log of a corpus, once, for counting
 //!                                instructions (callgrind.sh)
 
 mod corpora;

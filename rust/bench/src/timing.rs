@@ -158,12 +158,17 @@ pub fn clearing(numbers: usize) -> f64 {
     median(&mut times)
 }
 
-/// The proved judge and the proved converter on one log, once.
+/// The proved judge, the proved replay of its schedule and the proved converter on one log, once.
 pub fn once(log: &[u8]) {
     let mut out = vec![0; FILE_MOST];
     let mut scratch = vec![0; SCRATCH_LEAST];
     match judge_into(log, &mut out, 0, &mut scratch) {
-        Ok(Judged::Allowed { steps, .. }) => println!("allowed {steps}"),
+        Ok(Judged::Allowed { steps, length }) => {
+            println!("allowed {steps}");
+            if malluvom::replay(log, &out[..length.into()]) != Ok(Replayed::Yes) {
+                println!("not replayed");
+            }
+        }
         Ok(Judged::Impossible { event, .. }) => println!("impossible {event}"),
         Err(refusal) => println!("{refusal}"),
     }
