@@ -30,7 +30,8 @@ use Rattle.fields.specs.declared.Edition.the-variants.{First}
 use Rattle.log.specs.Records.{Records, systemOf}
 use Rattle.log.specs.Bytes.{field}
 use Rattle.log.specs.Payloads.{editionOf, lengthFits, operationFits, hasInitial, hasKind, homeIn, numbersIn}
-use Rattle.log.specs.Reading.{nothing, permitted, room, head, kindFits, home, occurrence, contents, admit, readFields}
+use Rattle.log.specs.Format.{admitBy, readBy}
+use Rattle.log.specs.Reading.{nothing, permitted, room, head, kindFits, home, occurrence, contents}
 use Rattle.log.specs.Reading.{accepted, readLog}
 use Rattle.log.proofs.Owned.{accepted-wellFormed}
 use Rattle.verdict_file.specs.Files.{allowed, impossible, header, stepField, stepFields, end, fileOf}
@@ -75,7 +76,7 @@ bytes flush =
 
 pub reads : (readLog (bytes 5) ≡ accepted (records events4)) × (readLog (bytes 6) ≡ accepted (records events5))
 unfolding
-    eventOf readLog readFields nothing admit permitted room lengthIn numberIn lengthFits operationFits contents
+    eventOf readLog readBy nothing admitBy permitted room lengthIn numberIn lengthFits operationFits contents
     editionOf hasInitial hasKind homeIn numbersIn head kindFits home occurrence uses
 reads = (refl, refl)
 
