@@ -29,9 +29,6 @@ TARGET = ROOT / "target"
 PAGE = ROOT / "docs" / "WRONG-PROGRAMS.md"
 FROM_NOTHING = "--from-nothing"
 
-# Edits that show nothing yet, by name, each with the reason. One that passes after all fails the script.
-SHOWS_NOTHING = {}
-
 # An error of the check: its file, the fact, and what is said of it, which goes on over the indented lines below.
 ERROR = re.compile(r"^\S*/(?:must-fail/\w+/\w+|crates/\w+)/((?:src|specs|proofs)/\S+?):\d+:\d+: error: (?:`([^`]+)`: )?"
                    r"(.*(?:\n[ \t].*)*)", re.M)
@@ -39,8 +36,11 @@ ERROR = re.compile(r"^\S*/(?:must-fail/\w+/\w+|crates/\w+)/((?:src|specs|proofs)
 WAITS = re.compile(r"`[^`]*` was not admitted")
 # A function without a proof file, and the facts that the checker did not find by itself.
 UNPROVED = re.compile(r"^fn \w+::(\S+): no proof: .*; `search` does not close (.*)$", re.M)
-# The proof no longer fits the code: a name is gone, a rewrite finds nothing, or a place of the code is another one.
-MISFIT = re.compile(r"is not in scope|has no field|no occurrence|differ only where one has `\S+\.Lts\.[A-Z][\w-]*`")
+# What is said of a fact that does not hold. Anything else is of a tactic or a name that no longer fits.
+FALSE = re.compile(r"(as printed|computed as far as they go), the two |expected type |`omega`: the goal does not follow "
+                   r"|`search`: no proof of |give a proof of that as the last argument|`[^`]*`\s+≟ |$")
+# So it is if the two that differ are places of the code: the proof then cites another place than it did.
+PLACE = re.compile(r"where one has `\S+\.Lts\.[A-Z][\w-]*`")
 
 
 def edits_of(crate):
@@ -134,7 +134,7 @@ def fault(log, rows):
     if not failing or "has no `Need" in log:
         return "SHOWS NOTHING: the proof file does not fit the code"
     where, fact, said = failing[0]
-    if MISFIT.search(said):
+    if not FALSE.match(said) or PLACE.search(said):
         return f"SHOWS NOTHING: {where}, {fact}: {said.splitlines()[0]}"
     there = {name for place, name, _ in failing if place == where}
     for words in rows:
@@ -145,16 +145,11 @@ def fault(log, rows):
 
 def verdict(edit, log, rows, took=""):
     """Whether an edit passes, and the line that says so."""
-    name = name_of(edit)
-    why = fault(log, rows.get(name, []))
-    if name in SHOWS_NOTHING and why is None:
-        return False, f"{name}: PASSES, and is listed as one that shows nothing"
-    if name in SHOWS_NOTHING and why.startswith(("SHOWS NOTHING", "ANOTHER FACT")):
-        return True, f"{name}: refused, and shows nothing, as is listed ({SHOWS_NOTHING[name]})"
+    why = fault(log, rows.get(name_of(edit), []))
     if why:
-        return False, f"{name}: {why}"
+        return False, f"{name_of(edit)}: {why}"
     where, fact, _ = facts(log)[0]
-    return True, f"{name}: refused, as it must be (first {where}, {fact}{took})"
+    return True, f"{name_of(edit)}: refused, as it must be (first {where}, {fact}{took})"
 
 
 def is_tried(edit):
@@ -198,10 +193,10 @@ def try_crate(crate, rows, whole):
 
 
 def strays(rows):
-    """The edits that the page does not have, and the names on the page or in the list that are no edit's."""
+    """The edits that the page does not have, and the names on the page that are no edit's."""
     there = {name_of(edit) for edit in ROOT.glob("crates/*/must-fail/**/*.edit")}
     return [(False, f"{name}: not on the page") for name in sorted(there - rows.keys())] + [
-        (False, f"{name}: no edit") for name in sorted((rows.keys() | SHOWS_NOTHING.keys()) - there)]
+        (False, f"{name}: on the page, and no edit") for name in sorted(rows.keys() - there)]
 
 
 def main():
