@@ -1,3 +1,4 @@
 pub mod Cursors
 pub mod Answers
+pub mod Calls
 pub mod Opening

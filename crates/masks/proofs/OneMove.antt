@@ -9,10 +9,9 @@ use lib.Dec.{T, eqb, eqb→eq}
 use lib.Bits.{bitOr}
 use Rattle.model.specs.Cxl0.{Machine}
 use Rattle.model.specs.Sharers.{has, insert, remove}
-use Rattle.model.specs.OneLocation.{moved}
+use Rattle.model.specs.OneLocation.{movable, moved}
 use Rattle.model.proofs.Tests.{by-test, and-l, and-r, ne-test}
 use Rattle.model.proofs.Sharers.{has-bound}
-use Rattle.model.proofs.SomeSilent.{movable}
 use Rattle.model.proofs.SilentSteps.{has→some}
 use Rattle.masks.specs.Sets.{In, Exactly, OneToSix}
 use Rattle.masks.proofs.Sets.{in-bound, in-none, in-or}

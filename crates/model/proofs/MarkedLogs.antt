@@ -7,13 +7,13 @@ use mathlib.Core.Bool.{Bool, true, not, _&&_}
 use mathlib.Core.List.{List, [], _∷_, List·Memᴰ, List·Memᴰ·head, List·Memᴰ·tail}
 use lib.Dec.{T, T-not, leb, leb→le}
 use lib.ListN.{length, take}
-use Rattle.model.specs.Cxl0.{Topology, WellFormed, isMachine, isLocation, owner, initial, keeps, isPersistent}
-use Rattle.model.specs.Cxl0.{Event, crashes, clears, named, allNamed, FirstImpossible}
+use Rattle.model.specs.Cxl0.{Machine, Topology, WellFormed, isMachine, isLocation, owner, initial, keeps}
+use Rattle.model.specs.Cxl0.{isPersistent, Event, crashes, clears, named, allNamed, FirstImpossible}
 use Rattle.model.specs.Sharers.{has, insert, remove, removeAll}
 use Rattle.model.specs.OneLocation.{concerns, eventAt, moved, enabledAt, effect, locationOf, siteOf}
 use Rattle.model.specs.OneLocation.{possibleAt, nextAt, startAt}
 use Rattle.model.specs.Meaning.{ownersFit}
-use Rattle.model.specs.MarkedLogs.{Verdict, MarkedLog, log, three, persistent, volatile}
+use Rattle.model.specs.MarkedLogs.{Verdict, MarkedLog, log, AsMarked, three, persistent, volatile, firstVolatile}
 use Rattle.model.specs.MarkedLogs.{logs, patternLogs, setCrashLogs, kindLogs}
 use Rattle.model.proofs.Tests.{and-l, and-r}
 use Rattle.model.proofs.Owners.{owners-fit}
@@ -57,19 +57,27 @@ unfolding allRight
 each (a ∷ ls) t l (List·Memᴰ·head e) = rw e (and-l (right a) (allRight ls) t)
 each (a ∷ ls) t l (List·Memᴰ·tail m) = each ls (and-r (right a) (allRight ls) t) l m
 
--- The whole test of each list, computed.
-all-right : T (allRight logs) × T (allRight patternLogs) × T (allRight setCrashLogs) × T (allRight kindLogs)
+-- The whole test of each list, computed. That of W-203 asks nothing of machines other than 1.
+all-right : T (allRight logs) × T (allRight patternLogs) × T (allRight kindLogs)
 unfolding
-    logs patternLogs setCrashLogs kindLogs log three persistent volatile
+    logs patternLogs kindLogs log three persistent volatile
     allRight right ownersFit judged decide everyBelow good someSilent someMoved
     isMachine isLocation owner initial keeps isPersistent crashes clears named allNamed
     has insert remove removeAll
     concerns eventAt locationOf enabledAt siteOf moved effect possibleAt nextAt startAt
-all-right = (tt, tt, tt, tt)
+all-right = (tt, tt, tt)
+
+sets-right : (others : Machine → Bool) → T (allRight (setCrashLogs others))
+unfolding
+    setCrashLogs log firstVolatile
+    allRight right ownersFit judged decide everyBelow good someSilent someMoved
+    isMachine isLocation owner initial keeps isPersistent crashes clears named allNamed
+    has insert remove removeAll
+    concerns eventAt locationOf enabledAt siteOf moved effect possibleAt nextAt startAt
+sets-right others = tt
 
 -- Each log of a list that passes has a well-formed system and its verdict.
-each-right : (ls : List MarkedLog) → T (allRight ls) → (l : MarkedLog) → List·Memᴰ l ls
-    → WellFormed (l .system) × Verdict (l .system) (l .events) (l .verdict)
+each-right : (ls : List MarkedLog) → T (allRight ls) → AsMarked ls
 unfolding right
 each-right ls t l m =
     let fit = ownersFit (l .system .machines) (l .system .homes) in
@@ -78,18 +86,14 @@ each-right ls t l m =
     let w = owners-fit (l .system) (and-l fit verdict r) in
     (w, judged-correct (l .system) w (l .events) (l .verdict) (and-r fit verdict r))
 
-pub marked-logs : (l : MarkedLog) → List·Memᴰ l logs
-    → WellFormed (l .system) × Verdict (l .system) (l .events) (l .verdict)
+pub marked-logs : AsMarked logs
 marked-logs = each-right logs (all-right .0)
 
-pub pattern-logs : (l : MarkedLog) → List·Memᴰ l patternLogs
-    → WellFormed (l .system) × Verdict (l .system) (l .events) (l .verdict)
+pub pattern-logs : AsMarked patternLogs
 pattern-logs = each-right patternLogs (all-right .1)
 
-pub set-crash-logs : (l : MarkedLog) → List·Memᴰ l setCrashLogs
-    → WellFormed (l .system) × Verdict (l .system) (l .events) (l .verdict)
-set-crash-logs = each-right setCrashLogs (all-right .2)
+pub kind-logs : AsMarked kindLogs
+kind-logs = each-right kindLogs (all-right .2)
 
-pub kind-logs : (l : MarkedLog) → List·Memᴰ l kindLogs
-    → WellFormed (l .system) × Verdict (l .system) (l .events) (l .verdict)
-kind-logs = each-right kindLogs (all-right .3)
+pub set-crash-logs : (others : Machine → Bool) → AsMarked (setCrashLogs others)
+set-crash-logs others = each-right (setCrashLogs others) (sets-right others)

@@ -3,8 +3,8 @@
 use Prim.Native.Nat.{ℕ, _+_, _*_, _≤_}
 use mathlib.Core.Path.{_≡_, refl}
 use mathlib.Core.Logic.{_≢_, _⊎_, _↔_}
-use mathlib.Core.Bool.{not}
-use mathlib.Core.List.{List, _∷_, _++_, List·Memᴰ, map}
+use mathlib.Core.Bool.{Bool, not}
+use mathlib.Core.List.{List, _∷_, _++_, map}
 use mathlib.Core.Option.{some}
 use lib.Dec.{T}
 use lib.ListN.{length, take}
@@ -19,7 +19,7 @@ use Rattle.model.specs.Sharers.{has}
 use Rattle.model.specs.Goes.{storeOf, Lists, crashRow}
 use Rattle.model.specs.Earlier as earlier
 use Rattle.model.specs.Earlier.{OwnersKinds, WakesAsZero, zeros}
-use Rattle.model.specs.MarkedLogs.{MarkedLog, Verdict, logs, patternLogs, setCrashLogs, kindLogs}
+use Rattle.model.specs.MarkedLogs.{AsMarked, logs, patternLogs, setCrashLogs, kindLogs}
 use Rattle.model.proofs.CopiesAgree
 use Rattle.model.proofs.Bound
 use Rattle.model.proofs.Split
@@ -186,18 +186,14 @@ zero-first-impossible sys = Earlier.same-first-impossible sys zeros
 
 -- The fourteen marked logs have the verdicts that document 01 gives them, and those of requests W-202, W-203 and W-206
 -- theirs.
-pub marked-logs : (l : MarkedLog) → List·Memᴰ l logs
-    → WellFormed (l .system) × Verdict (l .system) (l .events) (l .verdict)
+pub marked-logs : AsMarked logs
 marked-logs = marked.marked-logs
 
-pub pattern-logs : (l : MarkedLog) → List·Memᴰ l patternLogs
-    → WellFormed (l .system) × Verdict (l .system) (l .events) (l .verdict)
+pub pattern-logs : AsMarked patternLogs
 pattern-logs = marked.pattern-logs
 
-pub set-crash-logs : (l : MarkedLog) → List·Memᴰ l setCrashLogs
-    → WellFormed (l .system) × Verdict (l .system) (l .events) (l .verdict)
+pub set-crash-logs : (others : Machine → Bool) → AsMarked (setCrashLogs others)
 set-crash-logs = marked.set-crash-logs
 
-pub kind-logs : (l : MarkedLog) → List·Memᴰ l kindLogs
-    → WellFormed (l .system) × Verdict (l .system) (l .events) (l .verdict)
+pub kind-logs : AsMarked kindLogs
 kind-logs = marked.kind-logs

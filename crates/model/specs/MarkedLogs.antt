@@ -1,9 +1,10 @@
 -- The marked logs of document 01, and those of requests W-202, W-203 and W-206: for each, its system, its events, and
 -- the verdict that it must have.
 use Prim.Native.Nat.{ℕ, zero, suc}
-use mathlib.Core.Bool.{Bool, true, false}
-use mathlib.Core.List.{List, [], _∷_, _++_, map}
-use Rattle.model.specs.Cxl0.{Machine, Location, Value, Home, Topology, HasRun, FirstImpossible}
+use mathlib.Core.Bool.{Bool, true, false, not, _&&_}
+use mathlib.Core.List.{List, [], _∷_, _++_, map, List·Memᴰ}
+use lib.Dec.{eqb}
+use Rattle.model.specs.Cxl0.{Machine, Location, Value, Home, Topology, WellFormed, HasRun, FirstImpossible}
 use Rattle.model.specs.Cxl0.{Event, LStore, RStore, MStore, Load, LFlush, RFlush, Crash, SetCrash}
 
 -- A verdict is a number: 0 says that the events have a run, any other is that of the first impossible event.
@@ -18,6 +19,11 @@ pub record MarkedLog : Type 0 where
 
 unfoldable pub log : Topology → List Event → ℕ → MarkedLog
 log sys es e = record { system = sys; events = es; verdict = e }
+
+-- Each log of the list has a well-formed system and the verdict that it is marked with.
+abbrev pub AsMarked : List MarkedLog → Type 0
+AsMarked ls =
+    (l : MarkedLog) → List·Memᴰ l ls → WellFormed (l .system) × Verdict (l .system) (l .events) (l .verdict)
 
 -- A location of machine k whose memory holds v at power-on: of k's kind, or of the other one.
 abbrev pub filled : Machine → Value → Home
@@ -97,12 +103,17 @@ patternLogs =
     (MStore 3 L0 1 ∷ MStore 3 L1 1 ∷ SetCrash 3 ∷ Load 3 L0 7 ∷ Load 3 L1 7 ∷ []) 5
     ∷ []
 
--- The logs of request W-203, L0 of 1 and all volatile: single crashes of 1 and 2, allowed, since the copy may move from
--- 2 to 1 between them; and the set of both, whose bits make 3, in their place: impossible, 3.
-unfoldable pub setCrashLogs : List MarkedLog
-setCrashLogs =
-    log (volatile (1 ∷ [])) (LStore 2 L0 5 ∷ Crash 1 ∷ Crash 2 ∷ Load 2 L0 5 ∷ []) 0
-    ∷ log (volatile (1 ∷ [])) (LStore 2 L0 5 ∷ SetCrash 3 ∷ Load 2 L0 5 ∷ []) 3
+-- The system of request W-203: machine 1 is volatile and owns L0. Which of the other two are persistent is left open.
+unfoldable pub firstVolatile : (others : Machine → Bool) → Topology
+firstVolatile others =
+    record { machines = 3; persistent = λ i. not (eqb i 1) && others i; homes = filled 1 0 ∷ [] }
+
+-- The request's logs: single crashes of 1 and 2, allowed, since the copy may move from 2 to 1 between them; and the set
+-- of both, whose bits make 3, in their place: impossible at the load, 3.
+unfoldable pub setCrashLogs : (others : Machine → Bool) → List MarkedLog
+setCrashLogs others =
+    log (firstVolatile others) (LStore 2 L0 5 ∷ Crash 1 ∷ Crash 2 ∷ Load 2 L0 5 ∷ []) 0
+    ∷ log (firstVolatile others) (LStore 2 L0 5 ∷ SetCrash 3 ∷ Load 2 L0 5 ∷ []) 3
     ∷ []
 
 -- The logs of request W-206: machine 2 has a journal, L0, in persistent memory and an index, L1, in volatile memory,

@@ -107,6 +107,10 @@ enabledAt k (event (RMW form i y v w)) s = readableAt v s
 enabledAt k (silent (Propagate i y)) s = not (eqb i (k .owner)) && has i (s .code)
 enabledAt k (silent (WriteBack y)) s = has (k .owner) (s .code)
 
+-- Machine i has a copy that it may propagate to the owner k.
+abbrev pub movable : Machine → Machine → ℕ → Bool
+movable k i c = not (eqb i k) && has i c
+
 -- One propagation: machine i's copy goes to the owner k.
 unfoldable pub moved : Machine → Machine → ℕ → ℕ
 moved k i c = insert k (remove i c)
@@ -180,7 +184,7 @@ HasRunAt sys x es s = (acts : List Action) × (events acts ≡ es) × T (ownStep
 -- Code d is reached from code c by a chain of single propagations to the owner k, or by none.
 pub data Moves (k : Machine) : ℕ → ℕ → Type 0 where
   stay : {c : ℕ} → Moves k c c
-  move : {c d : ℕ} (i : Machine) → T (not (eqb i k) && has i c) → Moves k (moved k i c) d → Moves k c d
+  move : {c d : ℕ} (i : Machine) → T (movable k i c) → Moves k (moved k i c) d → Moves k c d
 
 -- Short form t of x is reached from s by silent steps of x, or by none.
 pub data Silently (sys : Topology) (x : Location) : Local → Local → Type 0 where

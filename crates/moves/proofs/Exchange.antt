@@ -9,12 +9,11 @@ use lib.Dec.{T, eqb, eqb→eq}
 use lib.Ieee.Fits.{eq→eqb}
 use Rattle.model.specs.Cxl0.{Machine}
 use Rattle.model.specs.Sharers.{has}
-use Rattle.model.specs.OneLocation.{moved, Moves, stay, move}
+use Rattle.model.specs.OneLocation.{movable, moved, Moves, stay, move}
 use Rattle.model.proofs.Tests.{by-test, ne-test, same-test}
 use Rattle.model.proofs.Sharers.{has-remove, remove-le, same-code}
 use Rattle.model.proofs.Expand.{has-insert-of}
 use Rattle.model.proofs.SilentSteps.{has-moved}
-use Rattle.model.proofs.SomeSilent.{movable}
 use Rattle.masks.specs.Sets.{OneToSix}
 use Rattle.masks.proofs.Codes.{insert-fits, moved-fits}
 use Rattle.moves.specs.Exchange.{put, exchange}

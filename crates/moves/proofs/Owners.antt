@@ -14,11 +14,12 @@ use Rattle.masks.proofs.Sets.{in-bound, in-none}
 use Rattle.masks.proofs.Constants.{every, tells, exactly}
 use Rattle.moves.specs.Exchange.{exchange}
 use Rattle.moves.specs.Reach.{Reached}
+use Rattle.moves.specs.Table.{numberAt}
 use Rattle.moves.proofs.Bits.{same-mask}
 use Rattle.moves.proofs.Everywhere.{holds}
 use Rattle.moves.proofs.Exchange.{exchange-fits, moves-exchanged}
 use Rattle.moves.proofs.Swaps.{rises, distance, swap, swapped}
-use Rattle.moves.proofs.Table.{table, at, entry, low, all-rise}
+use Rattle.moves.proofs.Table.{entry, low, all-rise}
 use Rattle.moves.proofs.Table.{follows, all-follow}
 use Rattle.moves.proofs.Chains.{chains}
 
@@ -47,17 +48,17 @@ low-rises k o =
 
 module _ (k c : ℕ) (o : OneToSix k) (h : c < 64) where
   -- Each number of the table has the codes that moves reach.
-  in-table : Reached k c (at table k c)
+  pub in-table : Reached k c (numberAt k c)
   unfolding follows
   in-table =
       let m = entry (exchange k c) in
       let back = swap 64 (low k) (distance k) m in
-      let same : Bool = eqb (at table k c) back in
+      let same : Bool = eqb (numberAt k c) back in
       let fits : Bool = ltb back (2 ^ 64) in
       let f = holds follows all-follow k c o h in
-      rw (eqb→eq (at table k c) back (and-l same fits f))
+      rw (eqb→eq (numberAt k c) back (and-l same fits f))
       (reached k c back o h (ltb→lt back (2 ^ 64) (and-r same fits f)) (swapped k o m (low k) (low-rises k o)))
 
   -- Every owner and code gets its number of the table: no other has just the codes that moves reach.
-  pub same-number : (r : ℕ) → Reached k c r → r ≡ at table k c
-  same-number r e = same-mask r (at table k c) (λ t. Iff·trans (e t) (Iff·symm (in-table t)))
+  pub same-number : (r : ℕ) → Reached k c r → r ≡ numberAt k c
+  same-number r e = same-mask r (numberAt k c) (λ t. Iff·trans (e t) (Iff·symm (in-table t)))

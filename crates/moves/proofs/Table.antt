@@ -1,46 +1,40 @@
--- The move table: its numbers, and the tests that they pass. How they are computed is of no account: all that
--- is shown of them rests on the tests.
-use Prim.Native.Nat.{ℕ, zero, suc, _+_, _*_, _-_, _/_, _%_, _^_}
+-- The tests that the numbers of the move table pass: all that is shown of them rests on these.
+use Prim.Native.Nat.{ℕ, _-_, _^_, _≤_}
 use mathlib.Core.Path.{_≡_, refl}
 use mathlib.Core.Bool.{Bool, cond, not, _&&_, _||_}
 use mathlib.Core.List.{List, [], _∷_}
-use lib.Dec.{T, eqb, ltb}
+use lib.Dec.{T, eqb, eqb→eq, ltb}
 use lib.Bits.{bitOr}
-use lib.ListN.{getD}
+use lib.ListN.{length, getD}
 use Rattle.model.specs.Cxl0.{Machine, everyMachine}
 use Rattle.model.specs.Sharers.{has, insert, remove}
-use Rattle.model.specs.OneLocation.{moved}
-use Rattle.model.proofs.SomeSilent.{movable}
+use Rattle.model.specs.OneLocation.{movable, moved}
+use Rattle.model.proofs.Machines.{every-e as every-machine}
 use Rattle.masks.proofs.Constants.{every, tells}
 use Rattle.moves.specs.Exchange.{put, exchange}
+use Rattle.moves.specs.Table.{number, entries, table, numberAt}
 use Rattle.moves.proofs.Everywhere.{everywhere}
 use Rattle.moves.proofs.Swaps.{swap, rises, distance}
 use Rattle.moves.proofs.Unions.{union}
 
--- 2 ^ t, added up over the codes t that c becomes if machines n to 1 in turn stay or, where they can, move.
-unfoldable pub number : Machine → ℕ → ℕ → ℕ
-number k zero c = 2 ^ c
-number k (suc n) c =
-    let gone = number k n (moved k (suc n) c) in
-    cond (movable k (suc n) c) gone 0 + number k n c
-
--- Entries n, n + 1 and so on of the table, m of them: 64 numbers for owner 1, then 64 for owner 2, up to 6.
-unfoldable pub entries : ℕ → ℕ → List ℕ
-entries zero n = []
-entries (suc m) n = number (n / 64 + 1) 6 (n % 64) ∷ entries m (suc n)
-
-unfoldable pub table : List ℕ
-table = entries 384 0
-
--- The number for owner k and code c.
-abbrev pub at : List ℕ → Machine → ℕ → ℕ
-at numbers k c = getD numbers ((k - 1) * 64 + c) 0
-
--- The four numbers that document 01 names: owner 2, code 1; owner 1, codes 3 and 6; code 0 for every owner.
-pub checks : (at table 2 1 ≡ 6) × (at table 1 3 ≡ 10) × (at table 1 6 ≡ 106)
-    × T (everyMachine 6 (λ k. eqb (at table k 0) 1))
+code-0 : T (everyMachine 6 (λ k. eqb (numberAt k 0) 1))
 unfolding everyMachine table entries number moved has insert remove
-checks = (refl, refl, refl, tt)
+code-0 = tt
+
+-- How many numbers it has, and those that document 01 names.
+pub checks : (length table ≡ 384)
+    × (numberAt 2 1 ≡ 6)
+    × (numberAt 1 3 ≡ 10)
+    × (numberAt 1 6 ≡ 106)
+    × ((k : Machine) → 1 ≤ k → k ≤ 6 → numberAt k 0 ≡ 1)
+unfolding table entries number moved has insert remove
+checks = (
+  refl,
+  refl,
+  refl,
+  refl,
+  λ k l h. eqb→eq (numberAt k 0) 1 (every-machine 6 (λ k. eqb (numberAt k 0) 1) code-0 k l h),
+)
 
 -- ---- owner 1
 
@@ -91,7 +85,7 @@ all-rise = tt
 unfoldable pub follows : Machine → ℕ → Bool
 follows k c =
     let back = swap 64 (low k) (distance k) (entry (exchange k c)) in
-    eqb (at table k c) back && ltb back (2 ^ 64)
+    eqb (numberAt k c) back && ltb back (2 ^ 64)
 
 -- The 384 numbers are those that the 64 give.
 pub all-follow : T (everywhere follows)

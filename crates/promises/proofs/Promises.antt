@@ -1,29 +1,32 @@
--- What Malluvom promises: document 01's three demands as theorems. Each speaks of a public call by what its contract
--- ensures, and of nothing else of the program. docs/TRUSTED.md lists the definitions that a reader has to believe. No
--- public call has a `requires`, and every call ends: the checker asks that of each function. That the model is the
--- published one is shown beside it: the eight facts of source 000's Proposition 1 in model's `Proposition1`, and what
--- flushes and MStores make sure of in `Persistence`.
+-- What Malluvom promises: document 01's three demands, and what the change requests add, as theorems. Each speaks of a
+-- public call by what its contract ensures, and of nothing else of the program. docs/TRUSTED.md lists the definitions
+-- that a reader has to believe. No public call has a `requires`, and every call ends: the checker asks that of each
+-- function. That the model is the published one is shown beside it: the eight facts of source 000's Proposition 1 in
+-- model's `Proposition1`, and what flushes and MStores make sure of in `Persistence`.
 use Prim.Native.Nat.{ℕ, _+_, _*_, _-_, _≤_, _<_}
 use mathlib.Core.Path.{_≡_, refl, _∙_}
 use mathlib.Core.Logic.{_↔_}
-use mathlib.Core.Bool.{true, false}
-use mathlib.Core.List.{List, [], _∷_, List·Memᴰ, _++_}
+use mathlib.Core.Bool.{Bool, true, false, not}
+use mathlib.Core.List.{List, [], _∷_, List·Memᴰ, _++_, map}
 use mathlib.Core.Option.{some}
 use lib.Dec.{T}
 use lib.ListN.{length, take, drop}
-use Rattle.model.specs.Cxl0.{Machine, Location, Value, Topology, WellFormed, initial, start, Event, Action}
-use Rattle.model.specs.Cxl0.{LStore, Load, LFlush, RFlush, Crash}
-use Rattle.model.specs.Cxl0.{after, Run, HasRun, events, silents, count, isStore, isLoad}
+use Rattle.model.specs.Cxl0.{Machine, Location, Value, MachineSet, Home, Topology, WellFormed, initial, State, start}
+use Rattle.model.specs.Cxl0.{everyMachine, cached, Form, Event, Action, event}
+use Rattle.model.specs.Cxl0.{LStore, Load, LFlush, RFlush, Crash, SetCrash, RMW}
+use Rattle.model.specs.Cxl0.{named, next, after, Run, HasRun, events, silents, count, isStore, isLoad}
+use Rattle.model.specs.Sharers.{has}
+use Rattle.model.specs.Goes.{storeOf, Lists, crashRow}
 use Rattle.model.specs.Earlier as earlier
 use Rattle.model.specs.Schedule.{Step, weave, schedule, inOrder}
 use Rattle.model.specs.Shortest.{Smaller}
-use Rattle.model.specs.MarkedLogs.{MarkedLog, logs, filled, L0}
-use Rattle.model.specs.MarkedLogs as marked
+use Rattle.model.specs.MarkedLogs.{AsMarked, logs, patternLogs, setCrashLogs, kindLogs, filled, L0}
 use Rattle.model.proofs.Theorems
 use Rattle.fields.specs.declared.Edition.{Edition}
 use Rattle.fields.specs.declared.Edition.the-variants.{First, Second}
 use Rattle.log.specs.Records.{Records, systemOf, WithinLimits}
 use Rattle.log.specs.Bytes.{Bytes, field, encode, ShortRows, NoKindBytes}
+use Rattle.log.specs.Payloads.{Numbers, eventWith}
 use Rattle.log.specs.Reading.{Given, Outcome, nothing, admit, readFields, accepted, rejected, readLog}
 use Rattle.log.proofs.OneForm
 use Rattle.log.proofs.Owned
@@ -34,6 +37,9 @@ use Rattle.recorder.specs.Recording as recording
 use Rattle.recorder.specs.Recording.{Call, Handed, recordedOf, Sequence}
 use Rattle.recorder.specs.declared.Recorded.{Recorded}
 use Rattle.recorder.proofs.Sequences
+use Rattle.cursors.specs.Cursors.{firstOf}
+use Rattle.cursors.specs.Calls.{HomeCalls, EventCalls}
+use Rattle.cursors.proofs.Called
 use Rattle.converter.specs.Values.{values}
 use Rattle.converter.specs.Converting as converting
 use Rattle.converter.specs.Converting.{other, inEdition, Converts}
@@ -45,6 +51,10 @@ use Rattle.replay.specs.Replaying.{Stops, Admitted, replayLog}
 use Rattle.replay.specs.Answers as replay
 use Rattle.replay.specs.declared.Replayed.{Replayed}
 use Rattle.replay.proofs.Demand2
+use Rattle.moves.specs.Reach.{Reached}
+use Rattle.moves.specs.Table.{table, numberAt}
+use Rattle.moves.proofs.Table
+use Rattle.moves.proofs.Owners
 use Rattle.scratch.specs.Clearing.{zeros}
 use Rattle.judge.specs.Judging.{Answer, gives, refused, answerOf, outcomeOf, told, areasFit, judgement}
 use Rattle.judge.specs.declared.Judged.{Judged}
@@ -82,6 +92,23 @@ module _ (s : List ℕ) (a : Reading) (answered : read.meaningOf a ≡ read.summ
       × (read.meaningOf a ≡ read.holds edition machines persistent locations events))
       ↔ ((r : Records) × WithinLimits r × (encode r ≡ s))
   read-exactly = Readings.read-exactly s a answered
+
+-- The locations and events themselves are what the cursors find in an accepted log: `home_at`, called from the position
+-- that `first` answered on until it finds none, and `event_at` from there on, each call as its contract ensures it.
+module _ (s : List ℕ) (b : Bytes s) (r : Records) (read : readLog s ≡ accepted r)
+    (first : ℕ) (begins : first ≡ firstOf s) where
+  -- They find its locations, and the numbers of its events, all of them and in their order.
+  pub cursors-find : (middle end : ℕ) × (ns : List Numbers)
+      × HomeCalls s first (r .homes) middle
+      × EventCalls s middle ns end
+      × (map eventWith ns ≡ r .events)
+  cursors-find = rw begins (Called.records-called s b r read)
+
+  -- They find nothing else.
+  pub cursors-only : {middle end : ℕ} {hs : List Home} {ns : List Numbers}
+      → HomeCalls s first hs middle → EventCalls s middle ns end
+      → (hs ≡ r .homes) × (map eventWith ns ≡ r .events)
+  cursors-only = rw begins (Called.only-records s b r read)
 
 -- What `record` answered, and the buffer afterwards, as its contract ensures them.
 module _ (buf : List ℕ) (used tag : ℕ) (payload : List ℕ) (a : Recorded) (buf' : List ℕ)
@@ -423,8 +450,7 @@ pub copies-agree : (sys : Topology) → WellFormed sys → (acts : List Action) 
 copies-agree = Theorems.copies-agree
 
 -- The fourteen marked logs have the verdicts that document 01 gives them, by the definitions alone.
-pub marked-logs : (l : MarkedLog) → List·Memᴰ l logs
-    → WellFormed (l .system) × marked.Verdict (l .system) (l .events) (l .verdict)
+pub marked-logs : AsMarked logs
 marked-logs = Theorems.marked-logs
 
 -- The tenth of them, on any system: no events are allowed, with no steps.
@@ -472,3 +498,83 @@ pub case-5 : let s : List ℕ =
     → (answerOf j ≡ gives 0 4 0 8)
     × (take 8 (drop offset out') ≡ 0x10 ∷ 0x02 ∷ 0x00 ∷ 0x00 ∷ 0x04 ∷ 0x04 ∷ 0x00 ∷ 0x00 ∷ []))
 case-5 = (WorkedLogs.reads .1, WorkedLogs.verdict-5, WorkedLogs.judged-5)
+
+-- ==== The change requests
+
+-- What W-204 and W-211 ask stands with the demands, and so does that W-202 and W-206 change nothing for older logs.
+
+-- W-201: a read-modify-write is a load of the first value and the matching store of the second with no silent step
+-- between. A list with it is a run exactly where the list with these two in its place is one,
+pub rmw-run : (sys : Topology) (form : Form) (i : Machine) (x : Location) (v w : Value) (before acts : List Action)
+    → Run sys (before ++ event (RMW form i x v w) ∷ acts)
+    ↔ Run sys (before ++ event (Load i x v) ∷ event (storeOf form i x w) ∷ acts)
+rmw-run = Theorems.rmw-run
+
+-- and both lead to the same state.
+pub rmw-after : (sys : Topology) (form : Form) (i : Machine) (x : Location) (v w : Value)
+    → (acts : List Action) (s : State)
+    → after sys (event (RMW form i x v w) ∷ acts) s
+    ≡ after sys (event (Load i x v) ∷ event (storeOf form i x w) ∷ acts) s
+rmw-after = Theorems.rmw-after
+
+-- W-202: a memory starts with its initial value, and a volatile one returns to it in a crash of its owner. Seven logs
+-- that show it have their verdicts, by the definitions alone.
+pub pattern-logs : AsMarked patternLogs
+pattern-logs = Theorems.pattern-logs
+
+-- W-203: the machines of a set crash in one step. Their single crashes in a row, in any order and with no silent step
+-- between them, come to the same: a list with the set crash is a run exactly where it is one with the row in its place,
+pub set-crash-run : (sys : Topology) (set : MachineSet) (is : List Machine) → Lists set is
+    → (before acts : List Action)
+    → Run sys (before ++ event (SetCrash set) ∷ acts) ↔ Run sys (before ++ (map event (crashRow is) ++ acts))
+set-crash-run = Theorems.set-crash-run
+
+-- both lead to the same state,
+pub set-crash-after : (sys : Topology) (set : MachineSet) (is : List Machine) → Lists set is
+    → (acts : List Action) (s : State)
+    → after sys (event (SetCrash set) ∷ acts) s ≡ after sys (map event (crashRow is) ++ acts) s
+set-crash-after = Theorems.set-crash-after
+
+-- and every set of machines of the system has such a row.
+pub set-crash-row : (sys : Topology) (set : MachineSet) → T (named sys (event (SetCrash set)))
+    → (is : List Machine) × Lists set is
+set-crash-row = Theorems.set-crash-row
+
+-- So events that have a run with the set crash have one with the row in its place.
+pub set-crash-has-run : (sys : Topology) (set : MachineSet) (is : List Machine) → Lists set is
+    → (es fs : List Event)
+    → HasRun sys (es ++ SetCrash set ∷ fs) → HasRun sys (es ++ (crashRow is ++ fs))
+set-crash-has-run = Theorems.set-crash-has-run
+
+-- Not the other way round, since copies may move between single crashes. With machine 1 volatile and owning L0, LStore
+-- by 2 of 5, crash 1, crash 2, load by 2 of 5 is allowed; with the set {1, 2} in place of the two crashes it is
+-- impossible, at the load. That holds whichever of the other machines are persistent.
+pub set-crash-logs : (others : Machine → Bool) → AsMarked (setCrashLogs others)
+set-crash-logs = Theorems.set-crash-logs
+
+-- A crash of all machines together leaves every cache empty.
+pub set-crash-all : (sys : Topology) (set : MachineSet) → T (everyMachine (sys .machines) (λ j. has j set))
+    → (s : State) (x : Location) → T (not (cached sys (next sys (event (SetCrash set)) s) x))
+set-crash-all = Theorems.set-crash-all
+
+-- W-205: what `reach` answered, as its contract ensures it, is the number of the full table for that owner and code.
+pub reach-number : (k c r : ℕ) → Reached k c r → 1 ≤ k → k ≤ 6 → c < 64 → r ≡ numberAt k c
+reach-number k c r answered one six code = Owners.same-number k c (one, six) code r answered
+
+-- That table is document 01's: in its number for an owner and a code, bit t is set exactly if moves alone, or none,
+-- reach code t.
+pub table-reached : (k c : ℕ) → 1 ≤ k → k ≤ 6 → c < 64 → Reached k c (numberAt k c)
+table-reached k c one six code = Owners.in-table k c (one, six) code
+
+-- It has 384 numbers, among them those that document 01 names.
+pub table-numbers : (length table ≡ 384)
+    × (numberAt 2 1 ≡ 6)
+    × (numberAt 1 3 ≡ 10)
+    × (numberAt 1 6 ≡ 106)
+    × ((k : Machine) → 1 ≤ k → k ≤ 6 → numberAt k 0 ≡ 1)
+table-numbers = Table.checks
+
+-- W-206: a crash asks each location for its kind. Twelve logs that show it, with a journal in persistent memory and an
+-- index in volatile memory behind one host, have their verdicts, by the definitions alone.
+pub kind-logs : AsMarked kindLogs
+kind-logs = Theorems.kind-logs

@@ -4,8 +4,9 @@ use native.Mathlib.Omega.{arith}
 use borrow.Author.Needs.{needs}
 use Rattle.model.specs.Sharers.{has, insert, remove}
 use Rattle.model.specs.OneLocation.{moved}
+use Rattle.moves.specs.Table.{number, entries}
 use Rattle.moves.proofs.Exchange.{exchange-fits}
-use Rattle.moves.proofs.Table.{number, entries, kept}
+use Rattle.moves.proofs.Table.{kept}
 use Rattle.moves.proofs.Owners.{reached, none}
 use Rattle.moves.proofs.reach.Statement.{statement}
 use Rattle.moves.proofs.reach.Tie as tie
