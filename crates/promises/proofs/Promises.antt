@@ -1,8 +1,8 @@
 -- What Malluvom promises: document 01's three demands, and what the change requests add, as theorems. Each speaks of a
 -- public call by what its contract ensures, and of nothing else of the program. docs/TRUSTED.md lists the definitions
--- that a reader has to believe. No public call has a `requires`, and every call ends: the checker asks that of each
--- function. That the model is the published one is shown beside it: the eight facts of source 000's Proposition 1 in
--- model's `Proposition1`, and what flushes and MStores make sure of in `Persistence`.
+-- that a reader has to believe. No call that users make has a `requires`, and every call ends: the checker asks that
+-- of each function. That the model is the published one is shown beside it: the eight facts of source 000's
+-- Proposition 1 in model's `Proposition1`, and what flushes and MStores make sure of in `Persistence`.
 use Prim.Native.Nat.{ℕ, _+_, _*_, _-_, _≤_, _<_}
 use mathlib.Core.Path.{_≡_, refl, _∙_}
 use mathlib.Core.Logic.{_↔_}
