@@ -38,7 +38,8 @@ WAITS = re.compile(r"`[^`]*` was not admitted")
 UNPROVED = re.compile(r"^fn \w+::(\S+): no proof: .*; `search` does not close (.*)$", re.M)
 # What is said of a fact that does not hold. Anything else is of a tactic or a name that no longer fits.
 FALSE = re.compile(r"(as printed|computed as far as they go), the two |expected type |`omega`: the goal does not follow "
-                   r"|`search`: no proof of |give a proof of that as the last argument|`[^`]*`\s+≟ |$")
+                   r"|`search`: no proof of |list the missing equation .*\n\s+`cc`: the equations do not join "
+                   r"|give a proof of that as the last argument|`[^`]*`\s+≟ |$")
 # So it is if the two that differ are places of the code: the proof then cites another place than it did.
 PLACE = re.compile(r"where one has `\S+\.Lts\.[A-Z][\w-]*`")
 
