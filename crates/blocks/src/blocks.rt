@@ -17,7 +17,7 @@ use segments::words::{Block, Segment, get_costs, get_segment};
 use walking::act_at;
 
 // The place after the block, if it has a run.
-#[derive(Drop)]
+#[derive(Clone, Copy)]
 pub struct Onto {
     pub found: bool,
     pub place: Place,

@@ -16,7 +16,7 @@ use walking::act_at;
 const NONE: usize = 255;
 
 // A gap, the state of the location there, and where the list of steps ends.
-#[derive(Drop)]
+#[derive(Clone, Copy)]
 pub struct Place {
     pub gap: usize,
     pub code: u8,

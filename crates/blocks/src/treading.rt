@@ -20,7 +20,7 @@ const STAY: u8 = 7;
 
 // Where the walk stands: the code and the memory value of the location, where the list of steps ends, and how many are
 // left to pay.
-#[derive(Drop)]
+#[derive(Clone, Copy)]
 pub struct Stand {
     pub code: u8,
     pub memory: u32,

@@ -1,6 +1,8 @@
 // The calls for C, Rust and Python: `cxl0_record`, `cxl0_read`, `cxl0_convert`, `cxl0_replay` and `cxl0_judge` make the
 // proved calls and pack each answer in one number, as specs/Packing.antt says; `cxl0_version` says which change
 // requests are in them, as specs/Version.antt does. In C a slice is a pointer and a length. No call has a `requires`.
+#![tactic(auto)]
+
 mod packing;
 
 ghost use Rattle.std.specs.Prelude.{◌≡◌};

@@ -11,6 +11,8 @@
 //
 // Bytes are in hexadecimal digits, lengths and the offset in decimal. Any other line is a comment, and is printed as it
 // is.
+#![tactic(auto)]
+
 mod areas;
 mod converting;
 mod judging;

@@ -1,5 +1,7 @@
 // One location of a system, as a state keeps it, with what each action makes of it: whether the entry enables the
 // action, and the entry after it. specs/Entries.antt says what an entry means and what the answer to an action is.
+#![tactic(auto)]
+
 mod acting;
 mod sites;
 
@@ -7,7 +9,7 @@ use model::{Location, Machine, NOWHERE};
 
 // One location: bit i - 1 of `sharers` is set if machine i's cache holds a copy, all copies have the value
 // `copy`, and `memory` is the value in memory.
-#[derive(Drop)]
+#[derive(Clone, Copy)]
 pub struct Entry {
     pub sharers: u8,
     pub copy: u32,
@@ -23,7 +25,7 @@ pub const EMPTY: Entry = Entry {
 
 // What an action at a location depends on beside its entry: the owner, whether a crash of the owner clears the memory,
 // and the value that memory has at the start and after such a crash.
-#[derive(Drop)]
+#[derive(Clone, Copy)]
 pub struct Site {
     pub location: Location,
     pub owner: Machine,
@@ -32,7 +34,7 @@ pub struct Site {
 }
 
 // The answer to an action: whether the entry enables it, and the entry after it.
-#[derive(Drop)]
+#[derive(Clone, Copy)]
 pub struct Acted {
     pub enabled: bool,
     pub entry: Entry,

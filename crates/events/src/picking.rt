@@ -10,7 +10,7 @@ use model::Location;
 use scratch::{EVENTS, INDEX, LOG, NEXT_CRASH, NEXT_OWN, put_pair};
 
 // The indices of the next event of the location and of the next crash, and how many events have been copied.
-#[derive(Drop)]
+#[derive(Clone, Copy)]
 pub struct Pick {
     pub own: usize,
     pub crash: usize,

@@ -1,5 +1,7 @@
 // Is there a run, and which? `judge` finds the shortest schedule that explains a log, or names the first impossible
 // event, and writes the verdict file. specs/Judging.antt says what it answers and leaves.
+#![tactic(auto)]
+
 mod issuing;
 
 ghost use Rattle.std.specs.Prelude.{◌≡◌, true};
@@ -20,7 +22,7 @@ use weighing::weigh;
 
 // Allowed, with the step count and the length of the file; impossible, with the number of the first impossible
 // event and the length; or a refusal.
-#[derive(Drop)]
+#[derive(Clone, Copy)]
 pub enum Judged {
     Allowed(usize, usize),
     Impossible(u8, usize),

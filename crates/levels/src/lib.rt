@@ -3,6 +3,8 @@
 //
 // Its callers see to it that the scratch area has 4,096 words, the events are known, and the bounds of a task are
 // right.
+#![tactic(auto)]
+
 ghost use Rattle.std.specs.Prelude.{◌≡◌, T, length, ◌≤◌, ◌<◌};
 ghost use Rattle.model.specs.Meaning.{meant};
 ghost use Rattle.masks.specs.Sets.{Exactly};
@@ -31,7 +33,7 @@ pub const OTHER: u8 = 2;
 // The gaps up to `end`, and how the stretch closes there; whether memory has the value of the copies, up to the gap
 // `reset` and after it; whether copies may be written back; what is to pay after the last gap; and bounds of the
 // levels.
-#[derive(Drop)]
+#[derive(Clone, Copy)]
 pub struct Task {
     pub owner: Machine,
     pub end: usize,

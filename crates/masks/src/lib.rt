@@ -4,6 +4,8 @@
 //
 // Its callers see to it that a machine's number is 1 to 6, that a code is below 64, and that `lowest` is given a mask
 // that is not 0.
+#![tactic(auto)]
+
 ghost use Rattle.std.specs.Prelude.{◌≡◌, true, cond, not, ◌&&◌, ◌↔◌, ◌≢◌, T, eqb, ℕ, ◌<◌};
 ghost use Rattle.model.specs.Sharers.{has, insert, remove, remove_all};
 ghost use Rattle.model.specs.OneLocation.{moved};

@@ -1,5 +1,7 @@
 // CXL0: what a system of machines that share memory may do, and the fixed part of such a system. The
 // definitions are those of specs/Cxl0.antt; the contracts are equations with them.
+#![tactic(auto)]
+
 pub mod codes;
 mod homes;
 mod topologies;
@@ -10,16 +12,16 @@ pub const MACHINES: u8 = 6;
 pub const LOCATIONS: usize = 32;
 
 // A machine, numbered from 1.
-#[derive(Drop)]
+#[derive(Clone, Copy)]
 pub struct Machine(pub u8);
 
 // A location, numbered from 0.
-#[derive(Drop)]
+#[derive(Clone, Copy)]
 pub struct Location(pub u8);
 
 // Where a location lives: its owner, whether its memory differs in kind from its owner's, and the value that it holds
 // at the start and after a crash that clears it.
-#[derive(Drop)]
+#[derive(Clone, Copy)]
 pub struct Home {
     pub owner: Machine,
     pub differs: bool,
@@ -45,7 +47,7 @@ pub struct Topology {
 
 // An event by its operation number; what the operation does not use is ignored. `value` is what was stored or read,
 // `written` what a read-modify-write stored after its read. A set crash has its set in `location`, as in the bytes.
-#[derive(Drop)]
+#[derive(Clone, Copy)]
 pub struct Event {
     pub operation: u8,
     pub machine: Machine,

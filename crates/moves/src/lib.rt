@@ -2,6 +2,8 @@
 // of machines is a code below 64 (bit i - 1 for machine i), and a set of codes is a mask (bit t for code t).
 // Moves to one owner are like moves to another, so that the table has the numbers of owner 1 alone: for owner
 // k, machines 1 and k are exchanged in the code that is looked up, and again in the codes that are found.
+#![tactic(auto)]
+
 ghost use Rattle.std.specs.Prelude.{◌≡◌, ◌<◌};
 ghost use Rattle.masks.specs.Sets.{In, Exactly, OneToSix};
 ghost use Rattle.moves.specs.Exchange.{exchange};

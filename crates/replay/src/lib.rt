@@ -1,6 +1,8 @@
 // Is a schedule a run of a log? `replay` takes the bytes of a log and of a verdict file, and goes through the
 // events and the silent steps on the whole system's state, from empty caches and initial memories. Its answer
 // is `replay_log` of specs/Replaying.antt, and proofs/Demand2.antt says what that means. It writes nothing.
+#![tactic(auto)]
+
 mod walking;
 
 ghost use Rattle.std.specs.Prelude.{◌≡◌, length};
@@ -19,7 +21,7 @@ use schedules::{FIRST, Scheduled, read_schedule};
 use walking::{Place, walk};
 
 // Yes, or no and the number of events passed before the first thing not possible, or why an input is refused.
-#[derive(Drop)]
+#[derive(Clone, Copy)]
 pub enum Replayed {
     Yes,
     No(u8),

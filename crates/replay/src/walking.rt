@@ -22,7 +22,7 @@ use states::{State, Stepped};
 
 // Where a replay stands: how many events have passed, and the positions of the next event in the log and of the next
 // step in the schedule.
-#[derive(Drop)]
+#[derive(Clone, Copy)]
 pub struct Place {
     pub passed: u8,
     pub event: usize,
@@ -30,7 +30,7 @@ pub struct Place {
 }
 
 // A step of the schedule, an event of the log, or neither.
-#[derive(Drop)]
+#[derive(Clone, Copy)]
 pub enum Thing {
     Step(Step),
     Event(Event),
@@ -38,7 +38,7 @@ pub enum Thing {
 }
 
 // What comes next, and where the replay stands after it.
-#[derive(Drop)]
+#[derive(Clone, Copy)]
 pub struct Next {
     pub thing: Thing,
     pub place: Place,

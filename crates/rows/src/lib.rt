@@ -5,6 +5,8 @@
 // its operation is 1 LStore, 2 RStore, 3 MStore, 4 Load, 5 LFlush, 6 RFlush, 7 crash, 8 L-RMW, 9 R-RMW, 10 M-RMW or 11
 // set crash, its set in place of the location. The reader has refused every other number, so that no event comes to the
 // arms of these, and any value will do there: it is one that takes no test of its own.
+#![tactic(auto)]
+
 ghost use Rattle.std.specs.Prelude.{◌≡◌, true, cond, not, ◌↔◌, ◌≢◌, T, ℕ, ◌<◌};
 ghost use Rattle.model.specs.Cxl0.{Load};
 ghost use Rattle.model.specs.Sharers.{has, insert, remove, remove_all};
@@ -26,7 +28,7 @@ use model::{Event, Machine};
 
 // From which states the rest of a log can be finished, where copies have one given value: codes of `any` with every
 // memory value, and codes of `one` with the memory value `value`.
-#[derive(Drop)]
+#[derive(Clone, Copy)]
 pub struct Row {
     pub any: u64,
     pub one: u64,

@@ -1,5 +1,7 @@
 // What a verdict file says as a schedule. `read_schedule` accepts exactly the files that say allowed and fit
 // a log, and `step_at` hands out their steps. specs/Schedules.antt says what the bytes of a verdict file give.
+#![tactic(auto)]
+
 mod checking;
 
 ghost use Rattle.std.specs.Prelude.{◌≡◌};
@@ -15,14 +17,14 @@ use verdict_file::{STEPS_MOST, TAG_STEP};
 pub const FIRST: usize = 5;
 
 // The number of steps, or why the file is no schedule.
-#[derive(Drop)]
+#[derive(Clone, Copy)]
 pub enum Scheduled {
     Steps(usize),
     Refused(Refusal),
 }
 
 // A silent step with the number of events before it. `Machine(0)` stands for a write-back.
-#[derive(Drop)]
+#[derive(Clone, Copy)]
 pub struct Step {
     pub before: u8,
     pub location: Location,
@@ -30,7 +32,7 @@ pub struct Step {
 }
 
 // The step whose field begins at a position, and the position after it.
-#[derive(Drop)]
+#[derive(Clone, Copy)]
 pub enum StepAt {
     Found(Step, usize),
     Absent,

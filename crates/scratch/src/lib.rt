@@ -3,6 +3,8 @@
 //
 // Its callers see to it that the scratch area has at least 4,096 words, an event's number is below 129, and a row's is
 // at most 129.
+#![tactic(auto)]
+
 ghost use Rattle.std.specs.Prelude.{◌≡◌, ◌+◌, ◌≤◌, ◌<◌, length};
 ghost use Rattle.scratch.specs.Layout.{WORDS, MOST};
 ghost use Rattle.scratch.specs.Clearing.{zeros};
@@ -67,7 +69,7 @@ pub const U32: u64 = 1 << 32;
 const STEPS_END: u64 = 256 * U32;
 
 // Where the walk stands: the code and the memory value of the location, and where the list of steps ends.
-#[derive(Drop)]
+#[derive(Clone, Copy)]
 pub struct Waypoint {
     pub code: u8,
     pub memory: u32,

@@ -15,14 +15,14 @@ use scratch::{STEPS, Waypoint, get_copy, get_event, get_waypoint, put_copy, put_
 use walking::{act_at, turn};
 
 // Where the walk stands after an event, unless the events up to it have no run.
-#[derive(Drop)]
+#[derive(Clone, Copy)]
 pub struct Onward {
     pub found: bool,
     pub waypoint: Waypoint,
 }
 
 // How many events have a run; if all have one, how many words the list of steps has with those of their schedule.
-#[derive(Drop)]
+#[derive(Clone, Copy)]
 pub struct Found {
     pub events: usize,
     pub steps: usize,

@@ -3,6 +3,8 @@
 //
 // Its callers see to it that the scratch area has 4,096 words, and that there are at most 129 events, each known
 // (operations 1 to 11, machines 1 to 6).
+#![tactic(auto)]
+
 mod backtracking;
 pub mod explaining;
 pub mod shortening;

@@ -18,7 +18,7 @@ use model::Event;
 use scratch::{BACKS, get_event};
 
 // No number of a list is below `least`, and one more than each that is not FAR is at most `most`.
-#[derive(Drop)]
+#[derive(Clone, Copy)]
 pub struct Bounds {
     pub least: u64,
     pub most: u64,

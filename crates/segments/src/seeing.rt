@@ -12,7 +12,7 @@ use walking::act_at;
 
 // Whether the events run to the segment's end without a step: with a memory value that is not that of the copies, and
 // with that of the copies. Whether the owner has a copy on the way, as far as they go.
-#[derive(Drop)]
+#[derive(Clone, Copy)]
 pub struct Seen {
     pub other: bool,
     pub same: bool,

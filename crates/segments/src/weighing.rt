@@ -16,7 +16,7 @@ use levels::{FAR, SAME, Task, fewest};
 use model::Machine;
 
 // What is to pay with a memory value that no event reads, and to keep one that the segment does not read.
-#[derive(Drop)]
+#[derive(Clone, Copy)]
 pub struct Others {
     pub other: u64,
     pub keep: u64,

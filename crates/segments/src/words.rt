@@ -7,7 +7,7 @@ use scratch::{SEGMENTS, U32};
 
 // A segment: the value of its copies, its first and its last gap, the code at the first one, how it closes, and the
 // first event that resets memory, or a number that is not below `end`.
-#[derive(Drop)]
+#[derive(Clone, Copy)]
 pub struct Segment {
     pub copy: u32,
     pub first: usize,
@@ -20,7 +20,7 @@ pub struct Segment {
 // What is to pay, FAR if there is no run. `keep`: in the segment, to keep a memory value that it does not read.
 // `other`: from its start on, with a memory value that no event reads; `same`: with that of its copies. `back`: after
 // the segment, with that of its copies.
-#[derive(Drop)]
+#[derive(Clone, Copy)]
 pub struct Costs {
     pub keep: u64,
     pub other: u64,
@@ -29,7 +29,7 @@ pub struct Costs {
 }
 
 // How many segments a block has, where it ends, and whether that is with a read of `value` from memory.
-#[derive(Drop)]
+#[derive(Clone, Copy)]
 pub struct Block {
     pub count: usize,
     pub end: usize,

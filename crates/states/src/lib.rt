@@ -1,6 +1,8 @@
 // The state of a whole system, with a method for each event and each silent step: it says whether that action
 // is possible, and hands back the state after it or, if it is not, the same state. The contracts are
 // equations on the struct, and with the definitions of `model` on what it means; both are in specs/States.antt.
+#![tactic(auto)]
+
 mod stepping;
 
 use entries::Entry;

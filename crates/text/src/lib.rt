@@ -2,6 +2,8 @@
 // position on, as far as the buffer reaches, no other byte changes, and the call gives the position after it
 // (specs/Putting.antt). Reading ends at the first byte that is no digit and where there is no more room, and gives
 // where that is and what was read up to there (specs/Reading.antt). specs/Digits.antt has the digits.
+#![tactic(auto)]
+
 ghost use Rattle.std.specs.Prelude.{◌≡◌, [], ◌∷◌, ◌<◌, get_or, drop};
 ghost use Rattle.text.specs.Putting.{put, after};
 ghost use Rattle.text.specs.Digits.{decimal_of, hex_digit, hex_of, digit_value, hex_value};
@@ -13,7 +15,7 @@ const NO_BYTE: u16 = 256;
 const LIMIT: usize = 18446744073709551610;
 
 // Where reading stopped, and how many bytes, or which number, was read.
-#[derive(Drop)]
+#[derive(Clone, Copy)]
 pub struct Parsed {
     pub at: usize,
     pub value: usize,

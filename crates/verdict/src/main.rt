@@ -1,6 +1,8 @@
 // The verdict program: reads a log from standard input and prints `allowed` and the number of silent steps, with
 // a line for each of them (events before it, location, machine), or `impossible` and the first impossible event,
 // or `number` and that of the refusal; and then `end`.
+#![tactic(auto)]
+
 use fields::refusals::number_of;
 use judge::{Judged, judge};
 use log::LOG_MOST;
@@ -42,7 +44,7 @@ fn say_step(page: &mut [u8], at: usize, p: Step) -> usize {
 }
 
 // Where the next line goes to, and where the next step comes from.
-#[derive(Drop)]
+#[derive(Clone, Copy)]
 struct Place {
     to: usize,
     from: usize,

@@ -1,5 +1,7 @@
 // What a verdict's bytes say. `write_allowed` and `write_impossible` put a verdict file into the output at an
 // offset, or change nothing. specs/Files.antt has the bytes, specs/Schedules.antt what they give to a reader.
+#![tactic(auto)]
+
 pub mod filling;
 
 ghost use Rattle.std.specs.Prelude.{◌≡◌};
@@ -21,7 +23,7 @@ pub const TAG_STEP: u8 = 0x11;
 pub const TAG_END: u8 = 0x04;
 
 // The length of the file that was written, or why none was.
-#[derive(Drop)]
+#[derive(Clone, Copy)]
 pub enum Written {
     Length(usize),
     Refused(Refusal),

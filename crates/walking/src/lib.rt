@@ -3,6 +3,8 @@
 //
 // Its callers see to it that the rows are there, that the events have a run from where the walk begins, and that they
 // are known, so that none comes to the arms of refused operations.
+#![tactic(auto)]
+
 ghost use Rattle.std.specs.Prelude.{◌+◌, ◌≤◌, ◌<◌, ◌≡◌, ◌≢◌, length};
 ghost use Rattle.masks.specs.Sets.{OneToSix};
 ghost use Rattle.rows.specs.Rows.{Fine};

@@ -1,6 +1,8 @@
 // Is there a run of the events in the scratch area, and which? `weigh` visits the locations one after the other, each
 // with only the events that matter there, and puts the steps that it found in order. The events stay in the area, so
 // that with others after them they can be weighed again. specs/Weighing.antt says what it answers and leaves.
+#![tactic(auto)]
+
 mod visiting;
 
 ghost use Rattle.weighing.specs.Weighing.{Weighable, Concluded};
@@ -11,7 +13,7 @@ use visiting::visit_all;
 
 // There is a run, and the shortest schedule stands from SORTED on, so many steps; or there is none, and the number of
 // the first impossible event, from 1.
-#[derive(Drop)]
+#[derive(Clone, Copy)]
 pub enum Weighed {
     Allowed(usize),
     Impossible(usize),

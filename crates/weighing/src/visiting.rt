@@ -13,7 +13,7 @@ use model::{Location, Topology};
 use search::shortening::shorten;
 
 // How many of the events have a run at each location so far, and how many steps their shortest schedules have.
-#[derive(Drop)]
+#[derive(Clone, Copy)]
 pub struct Progress {
     pub events: usize,
     pub steps: usize,
