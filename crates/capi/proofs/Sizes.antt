@@ -4,10 +4,10 @@ use native.Mathlib.Omega.{arith}
 use mathlib.Core.Path.{◌≡◌, refl, sym}
 use mathlib.Core.Bool.{Bool, true, false, cond}
 use mathlib.Core.List.{List}
-use Rattle.log.specs.Records.{Records, system_of}
-use Rattle.log.specs.Bytes.{Bytes}
-use Rattle.log.specs.Reading.{Log, accepted, rejected, read_log}
-use Rattle.log.proofs.Lengths.{longest}
+use Rattle.log_bytes.specs.Records.{Records, system_of}
+use Rattle.log_bytes.specs.Bytes.{Bytes}
+use Rattle.log_bytes.specs.Reading.{Log, accepted, rejected, read_log}
+use Rattle.log_bytes.proofs.Lengths.{longest}
 use Rattle.recorder.specs.Recording.{Recorded, count, rejected, recorded}
 use Rattle.recorder.proofs.Counts.{count_most}
 use Rattle.converter.specs.Converting as converting

@@ -6,7 +6,7 @@
 mod packing;
 
 ghost use Rattle.std.specs.Prelude.{◌≡◌};
-ghost use Rattle.log.specs.Reading.{read_log};
+ghost use Rattle.log_bytes.specs.Reading.{read_log};
 ghost use Rattle.reader.specs.Answers.{summary_of};
 ghost use Rattle.recorder.specs.Recording.{recorded, written};
 ghost use Rattle.converter.specs.Converting as converting;

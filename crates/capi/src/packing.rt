@@ -13,7 +13,7 @@ use converter::Converted;
 use fields::Refusal;
 use fields::refusals::number_of;
 use judge::Judged;
-use log::Head;
+use log_bytes::Head;
 use reader::Reading;
 use recorder::Recorded;
 use replay::Replayed;

@@ -25,7 +25,7 @@ use bytes::scan::find;
 use converting::convert_line;
 use fields::Edition;
 use judging::judge_line;
-use log::Head;
+use log_bytes::Head;
 use printing::{say, say_bytes, say_count, say_refusal, say_replayed};
 use reader::{Reading, read};
 use recorder::{Recorded, record};

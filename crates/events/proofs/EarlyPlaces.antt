@@ -50,7 +50,7 @@ shortest_started sys h = rw (shortest_schedule h) at (run_started sys _ (shortes
 -- What order says of each step.
 in_order_counts : (m n : ℕ) (ps : List Step) → T (in_order m n ps)
     → (p : Step) → Memᴰ p ps → (m ≤ p.before) × (p.before ≤ n)
-in_order_counts m n [] t p i = absurd (Memᴰ.not_nil i)
+in_order_counts m n [] t p i = absurd (Memᴰ.not-nil i)
 in_order_counts m n (q ∷ ps) t p i =
     let o = (in_order_cons m n q ps).0 t in
     ⊎_elim

@@ -14,9 +14,9 @@ use Rattle.model.proofs.Tests.{and_i}
 use Rattle.model.proofs.Bound.{bound, bound_256}
 use Rattle.model.proofs.Weaving.{events_weave}
 use Rattle.model.proofs.Smallest.{length_weave_from}
-use Rattle.log.specs.Records.{Records, system_of}
-use Rattle.log.specs.Reading.{accepted, read_log}
-use Rattle.log.proofs.Owned.{accepted_few, accepted_well_formed}
+use Rattle.log_bytes.specs.Records.{Records, system_of}
+use Rattle.log_bytes.specs.Reading.{accepted, read_log}
+use Rattle.log_bytes.proofs.Owned.{accepted_few, accepted_well_formed}
 use Rattle.verdict_file.specs.Files.{allowed, file_of, steps_most, events_most}
 use Rattle.verdict_file.specs.Fitting.{every_step_fits, schedule_fits}
 use Rattle.verdict_file.specs.Verdicts.{verdict_of}

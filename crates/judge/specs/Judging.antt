@@ -1,8 +1,8 @@
 -- What the judge answers and leaves (document 01, "Log and verdict bytes" and "Refusals by number").
 use Rattle.std.specs.Prelude.{ℕ, Bool, cond, ◌&&◌, List, leb, length}
 use Rattle.fields.specs.Refusals.{number_of}
-use Rattle.log.specs.Records.{system_of}
-use Rattle.log.specs.Reading.{Log, accepted, rejected, read_log}
+use Rattle.log_bytes.specs.Records.{system_of}
+use Rattle.log_bytes.specs.Reading.{Log, accepted, rejected, read_log}
 use Rattle.verdict_file.specs.Files.{Verdict, allowed, impossible, file_of}
 use Rattle.verdict_file.specs.Verdicts.{verdict_of}
 use Rattle.fields.specs.Put.{put}

@@ -5,16 +5,16 @@
 mod issuing;
 
 ghost use Rattle.std.specs.Prelude.{◌≡◌, true};
-ghost use Rattle.log.specs.Records.{Records};
-ghost use Rattle.log.specs.Reading.{accepted, read_log};
-ghost use Rattle.log.specs.Answers.{head_of};
+ghost use Rattle.log_bytes.specs.Records.{Records};
+ghost use Rattle.log_bytes.specs.Reading.{accepted, read_log};
+ghost use Rattle.log_bytes.specs.Answers.{head_of};
 ghost use Rattle.judge.specs.Judging.{areas_fit, outcome_of, judgement_of, judgement};
 
 use cursors::opening::open;
 use events::load;
 use fields::Refusal;
 use issuing::issue;
-use log::Head;
+use log_bytes::Head;
 use reader::{Reading, read};
 use scratch::{WORDS, clear};
 use verdict_file::filling::has_room;

@@ -26,7 +26,7 @@ mem_below (suc n) (suc j) h = Memᴰ.tail (Memᴰ.map suc (mem_below n j (omega 
 
 pub of_below : (n j : ℕ) → Memᴰ j (below n) → j < n
 unfolding below
-of_below zero j m = absurd (Memᴰ.not_nil m)
+of_below zero j m = absurd (Memᴰ.not-nil m)
 of_below (suc n) j m =
     let later = of_below n in
     ⊎_elim
@@ -85,7 +85,7 @@ first_some {A} R test (c ∷ l) a p e = go (test c) refl (first_some R test l a 
 pub first_none : {A : Type 0} (test : A → Bool) (l : List A) → first test l ≡ none
     → (b : A) → Memᴰ b l → ¬ T (test b)
 unfolding first
-first_none test [] e b m u = Memᴰ.not_nil m
+first_none test [] e b m u = Memᴰ.not-nil m
 first_none {A} test (c ∷ l) e b m u = go (test c) refl (first_none test l) e
   where
     go : (d : Bool) → test c ≡ d → (first test l ≡ none → (b : A) → Memᴰ b l → ¬ T (test b))

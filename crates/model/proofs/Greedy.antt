@@ -99,7 +99,7 @@ module _ (sys : Topology) (x : Location) where
   shortest_free n es s runs =
       record {
         order = tt;
-        own = λ p m. absurd (Memᴰ.not_nil m);
+        own = λ p m. absurd (Memᴰ.not-nil m);
         runs = rw (weave_none n es) runs;
         fewest = λ acts r. zero-le;
         smallest = λ acts r e. smaller_nil (schedule_from n acts);

@@ -108,7 +108,7 @@ module _ (steps : List Step) where
   -- They are listed in order, since the steps are.
   schedules_in_order : Pairwise Less steps → (k : ℕ) → Pairwise Smaller (schedules_of steps k)
   unfolding schedules_of Smaller
-  schedules_in_order o zero = unfold Pairwise in (λ b m. absurd (Memᴰ.not_nil m), tt)
+  schedules_in_order o zero = unfold Pairwise in (λ b m. absurd (Memᴰ.not-nil m), tt)
   schedules_in_order o (suc k) =
       pairwise_flat_map Less Smaller (beginning k) steps o
       (λ p.

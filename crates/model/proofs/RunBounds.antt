@@ -30,7 +30,7 @@ pub named_steps : (sys : Topology) (acts : List Action) (ps : List Step) → sil
     → T (each (named sys) acts)
     → (p : Step) → Memᴰ p ps → T (named sys (silent (silent_of p)))
 unfolding each silents
-named_steps sys [] [] e t p m = absurd (Memᴰ.not_nil m)
+named_steps sys [] [] e t p m = absurd (Memᴰ.not-nil m)
 named_steps sys [] (q ∷ ps) e t p m = absurd (nil≢cons e)
 named_steps sys (event f ∷ acts) ps e t p m =
     named_steps sys acts ps e (and_r (named sys (event f)) (each (named sys) acts) t) p m

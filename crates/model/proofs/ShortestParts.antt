@@ -47,7 +47,7 @@ step_of_located sys n (WriteBack x) t = t
 schedule_from_located : (sys : Topology) (n : ℕ) (acts : List Action) → T (all_named sys acts)
     → (p : Step) → Memᴰ p (schedule_from n acts) → T (is_location sys p.location)
 unfolding schedule_from all_named
-schedule_from_located sys n [] t p m = absurd (Memᴰ.not_nil m)
+schedule_from_located sys n [] t p m = absurd (Memᴰ.not-nil m)
 schedule_from_located sys n (event e ∷ acts) t p m =
     schedule_from_located sys (suc n) acts (and_r (named sys (event e)) (all_named sys acts) t) p m
 schedule_from_located sys n (silent a ∷ acts) t p m =

@@ -37,7 +37,7 @@ pub const NOWHERE: Home = Home {
 
 // The fixed part of a system: machines 1 to `machines`, the first `locations` of `homes`, and bit i - 1 of
 // `persistent` set if machine i's memory is persistent.
-#[derive(Drop)]
+#[derive(Clone, Copy)]
 pub struct Topology {
     pub machines: u8,
     pub persistent: u8,

@@ -9,10 +9,10 @@ use lib.ListN.{length, take, drop}
 use lib.Seq.{take-append_seam}
 use Rattle.model.specs.Cxl0.{Value}
 use Rattle.fields.specs.declared.Edition.TheVariants.{Second}
-use Rattle.log.specs.Records.{Records, system_of}
-use Rattle.log.specs.Bytes.{Bytes, encode}
-use Rattle.log.specs.Reading.{Log, accepted, rejected, read_log}
-use Rattle.log.proofs.Checks.{clash}
+use Rattle.log_bytes.specs.Records.{Records, system_of}
+use Rattle.log_bytes.specs.Bytes.{Bytes, encode}
+use Rattle.log_bytes.specs.Reading.{Log, accepted, rejected, read_log}
+use Rattle.log_bytes.proofs.Checks.{clash}
 use Rattle.converter.specs.Values.{values}
 use Rattle.converter.specs.Converting.{other, in_edition, Conversion, bytes, form_in, in_other, conversion, output_least}
 use Rattle.converter.specs.Converting.{Answer, gives, told, written, answer_of, Converts}

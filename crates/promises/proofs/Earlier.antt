@@ -9,8 +9,8 @@ use Rattle.model.specs.Earlier as earlier
 use Rattle.model.specs.Earlier.{OwnersKinds}
 use Rattle.model.specs.Schedule.{Step, weave}
 use Rattle.model.proofs.Earlier.{same_run, same_has_run}
-use Rattle.log.specs.Records.{Records, system_of}
-use Rattle.log.specs.Reading.{accepted, read_log}
+use Rattle.log_bytes.specs.Records.{Records, system_of}
+use Rattle.log_bytes.specs.Reading.{accepted, read_log}
 use Rattle.replay.specs.Replaying.{Admitted}
 use Rattle.promises.proofs.Verdicts.{same_records}
 

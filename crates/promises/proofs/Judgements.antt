@@ -12,8 +12,8 @@ use Rattle.model.specs.Cxl0.{Action, Run, HasRun, events, silents, count, is_sto
 use Rattle.model.specs.Schedule.{Step, weave, schedule}
 use Rattle.model.specs.Shortest.{Smaller, Shortest}
 use Rattle.model.proofs.Tests.{true→T}
-use Rattle.log.specs.Records.{Records, system_of}
-use Rattle.log.specs.Reading.{accepted, rejected, read_log}
+use Rattle.log_bytes.specs.Records.{Records, system_of}
+use Rattle.log_bytes.specs.Reading.{accepted, rejected, read_log}
 use Rattle.verdict_file.specs.Files.{Verdict, allowed, impossible, file_of}
 use Rattle.fields.specs.Put.{put}
 use Rattle.verdict_file.specs.Verdicts.{verdict_of}

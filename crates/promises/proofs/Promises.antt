@@ -24,13 +24,13 @@ use Rattle.model.specs.MarkedLogs.{AsMarked, logs, pattern_logs, set_crash_logs,
 use Rattle.model.proofs.Theorems
 use Rattle.fields.specs.declared.Edition.{Edition}
 use Rattle.fields.specs.declared.Edition.TheVariants.{First, Second}
-use Rattle.log.specs.Records.{Records, system_of, WithinLimits}
-use Rattle.log.specs.Bytes.{Bytes, field, encode, ShortRows, NoKindBytes}
-use Rattle.log.specs.Payloads.{Numbers, event_with}
-use Rattle.log.specs.Reading.{Given, Outcome, nothing, admit, read_fields, accepted, rejected, read_log}
-use Rattle.log.proofs.OneForm
-use Rattle.log.proofs.Owned
-use Rattle.log.proofs.ShortRows.{short_rows_zero, short_rows_kinds, no_kind_bytes_kinds}
+use Rattle.log_bytes.specs.Records.{Records, system_of, WithinLimits}
+use Rattle.log_bytes.specs.Bytes.{Bytes, field, encode, ShortRows, NoKindBytes}
+use Rattle.log_bytes.specs.Payloads.{Numbers, event_with}
+use Rattle.log_bytes.specs.Reading.{Given, Outcome, nothing, admit, read_fields, accepted, rejected, read_log}
+use Rattle.log_bytes.proofs.OneForm
+use Rattle.log_bytes.proofs.Owned
+use Rattle.log_bytes.proofs.ShortRows.{short_rows_zero, short_rows_kinds, no_kind_bytes_kinds}
 use Rattle.reader.specs.Answers as read
 use Rattle.reader.specs.declared.Reading.{Reading}
 use Rattle.recorder.specs.Recording as recording

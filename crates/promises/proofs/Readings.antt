@@ -5,11 +5,11 @@ use mathlib.Core.Logic.{◌↔◌}
 use mathlib.Core.List.{List}
 use lib.ListN.{length}
 use Rattle.fields.specs.declared.Edition.{Edition}
-use Rattle.log.specs.Records.{Records, WithinLimits}
-use Rattle.log.specs.Bytes.{Bytes, encode}
-use Rattle.log.specs.Reading.{Log, accepted, rejected, read_log}
-use Rattle.log.proofs.Checks.{clash}
-use Rattle.log.proofs.OneForm.{accepted_iff}
+use Rattle.log_bytes.specs.Records.{Records, WithinLimits}
+use Rattle.log_bytes.specs.Bytes.{Bytes, encode}
+use Rattle.log_bytes.specs.Reading.{Log, accepted, rejected, read_log}
+use Rattle.log_bytes.proofs.Checks.{clash}
+use Rattle.log_bytes.proofs.OneForm.{accepted_iff}
 use Rattle.reader.specs.Answers.{holds, refused, meaning_of, summary_of}
 use Rattle.reader.specs.declared.Reading.{Reading}
 

@@ -3,9 +3,9 @@ use Prim.Native.Nat.{ℕ, ◌+◌, ◌≤◌, ◌<◌}
 use mathlib.Core.Path.{◌≡◌, sym, ap, ◌∙◌}
 use mathlib.Core.List.{List, ◌++◌}
 use lib.ListN.{length, take, drop}
-use Rattle.log.specs.Records.{Records}
-use Rattle.log.specs.Bytes.{field}
-use Rattle.log.specs.Reading.{refused, unfinished, ended, refusal, nothing, admit, read_fields}
+use Rattle.log_bytes.specs.Records.{Records}
+use Rattle.log_bytes.specs.Bytes.{field}
+use Rattle.log_bytes.specs.Reading.{refused, unfinished, ended, refusal, nothing, admit, read_fields}
 use Rattle.recorder.specs.Recording as recording
 use Rattle.recorder.specs.Recording.{count, rejected, answer_of, recorded, written, Call}
 use Rattle.recorder.specs.declared.Recorded.{Recorded}

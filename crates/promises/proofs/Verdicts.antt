@@ -8,8 +8,8 @@ use lib.ListN.{length, take}
 use Rattle.model.specs.Cxl0.{Topology, Event, HasRun, FirstImpossible}
 use Rattle.model.specs.Schedule.{Step}
 use Rattle.model.proofs.Prefixes.{has_run_prefix, has_run_fewer}
-use Rattle.log.specs.Records.{Records}
-use Rattle.log.specs.Reading.{Log, accepted, rejected}
+use Rattle.log_bytes.specs.Records.{Records}
+use Rattle.log_bytes.specs.Reading.{Log, accepted, rejected}
 use Rattle.verdict_file.specs.Files.{Verdict, allowed, impossible, file_of}
 use Rattle.verdict_file.proofs.Verdicts.{Right, right_runs}
 use Rattle.judge.specs.Judging.{Answer, gives, refused, told}

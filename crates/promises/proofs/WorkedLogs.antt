@@ -28,13 +28,13 @@ use Rattle.fields.specs.Uses.{uses}
 use Rattle.fields.specs.Numbers.{bytes_of, number_in}
 use Rattle.fields.specs.Fields.{length_in}
 use Rattle.fields.specs.declared.Edition.TheVariants.{First}
-use Rattle.log.specs.Records.{Records, system_of}
-use Rattle.log.specs.Bytes.{field}
-use Rattle.log.specs.Payloads.{edition_of, length_fits, operation_fits, has_initial, has_kind, home_in, numbers_in}
-use Rattle.log.specs.Format.{admit_by, read_by}
-use Rattle.log.specs.Reading.{nothing, permitted, room, head, kind_fits, home, occurrence, contents}
-use Rattle.log.specs.Reading.{accepted, read_log}
-use Rattle.log.proofs.Owned.{accepted_well_formed}
+use Rattle.log_bytes.specs.Records.{Records, system_of}
+use Rattle.log_bytes.specs.Bytes.{field}
+use Rattle.log_bytes.specs.Payloads.{edition_of, length_fits, operation_fits, has_initial, has_kind, home_in, numbers_in}
+use Rattle.log_bytes.specs.Format.{admit_by, read_by}
+use Rattle.log_bytes.specs.Reading.{nothing, permitted, room, head, kind_fits, home, occurrence, contents}
+use Rattle.log_bytes.specs.Reading.{accepted, read_log}
+use Rattle.log_bytes.proofs.Owned.{accepted_well_formed}
 use Rattle.verdict_file.specs.Files.{allowed, impossible, header, step_field, step_fields, end, file_of}
 use Rattle.verdict_file.specs.Verdicts.{verdict_of}
 use Rattle.judge.specs.Judging.{gives, answer_of, told, outcome_of, areas_fit, judgement}
@@ -114,7 +114,7 @@ module _ {A : Type 0} (test : A → Bool) where
   -- Where none is counted, no member passes.
   none_passes : (l : List A) → count test l ≡ 0 → (a : A) → Memᴰ a l → ¬ T (test a)
   unfolding count
-  none_passes [] e a m t = Memᴰ.not_nil m
+  none_passes [] e a m t = Memᴰ.not-nil m
   none_passes (c ∷ l) e a m t = go (test c) refl (none_passes l) e
     where
       go : (b : Bool) → test c ≡ b → (count test l ≡ 0 → (a : A) → Memᴰ a l → ¬ T (test a))
@@ -127,7 +127,7 @@ module _ {A : Type 0} (test : A → Bool) where
   one_passes : (l : List A) → count test l ≡ 1
       → (a b : A) → Memᴰ a l → Memᴰ b l → T (test a) → T (test b) → a ≡ b
   unfolding count
-  one_passes [] e a b m n t u = absurd (Memᴰ.not_nil m)
+  one_passes [] e a b m n t u = absurd (Memᴰ.not-nil m)
   one_passes (c ∷ l) e a b m n t u =
       go (test c) refl (one_passes l) e (Memᴰ.cases_cons m) (Memᴰ.cases_cons n)
     where

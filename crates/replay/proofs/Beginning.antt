@@ -11,8 +11,8 @@ use Rattle.model.specs.Cxl0.{Topology, start}
 use Rattle.model.specs.Schedule.{Step, weave, in_order}
 use Rattle.model.specs.Meaning.{topology_of}
 use Rattle.model.proofs.Tests.{and_l, and_r}
-use Rattle.log.specs.Records.{Records, system_of}
-use Rattle.log.proofs.Checks.{clash}
+use Rattle.log_bytes.specs.Records.{Records, system_of}
+use Rattle.log_bytes.proofs.Checks.{clash}
 use Rattle.cursors.specs.Opening.{Opens}
 use Rattle.cursors.specs.Cursors.{Events}
 use Rattle.cursors.specs.declared.Opened.{Opened}

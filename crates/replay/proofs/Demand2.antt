@@ -10,9 +10,9 @@ use lib.Dec.{T}
 use lib.ListN.{length}
 use Rattle.model.specs.Cxl0.{Topology, start, Event, Run}
 use Rattle.model.specs.Schedule.{Step, weave}
-use Rattle.log.specs.Records.{Records, system_of}
-use Rattle.log.specs.Reading.{Log, accepted, rejected, read_log}
-use Rattle.log.proofs.Checks.{clash}
+use Rattle.log_bytes.specs.Records.{Records, system_of}
+use Rattle.log_bytes.specs.Reading.{Log, accepted, rejected, read_log}
+use Rattle.log_bytes.proofs.Checks.{clash}
 use Rattle.verdict_file.specs.Files.{allowed, file_of}
 use Rattle.verdict_file.specs.Fitting.{schedule_fits}
 use Rattle.schedules.specs.Schedules.{read_schedule}

@@ -18,10 +18,10 @@ use Rattle.model.specs.declared.Topology.{Topology}
 use Rattle.model.specs.declared.Event as model
 use Rattle.model.proofs.Tests.{T→true}
 use Rattle.model.proofs.Weaving.{in_order_cons, weave_due, weave_event}
-use Rattle.log.proofs.Elements.{no_elements}
-use Rattle.log.proofs.Checks.{clash}
-use Rattle.log.specs.Payloads.{Numbers, event_with}
-use Rattle.log.specs.Answers.{numbers_of}
+use Rattle.log_bytes.proofs.Elements.{no_elements}
+use Rattle.log_bytes.proofs.Checks.{clash}
+use Rattle.log_bytes.specs.Payloads.{Numbers, event_with}
+use Rattle.log_bytes.specs.Answers.{numbers_of}
 use Rattle.cursors.specs.Cursors.{event_at, Events, next_event}
 use Rattle.cursors.proofs.Found.{operation_found}
 use Rattle.schedules.specs.Schedules.{step_at, read_steps}

@@ -5,8 +5,8 @@ use Rattle.std.proofs.Math.Option.{Option, none, some}
 use Rattle.model.specs.Cxl0.{Topology, State, start, Event, Action, event, silent, possible, next}
 use Rattle.model.specs.Cxl0.{runs, after, events}
 use Rattle.model.specs.Schedule.{Step, weave}
-use Rattle.log.specs.Records.{Records, system_of}
-use Rattle.log.specs.Reading.{Log, accepted, rejected, read_log}
+use Rattle.log_bytes.specs.Records.{Records, system_of}
+use Rattle.log_bytes.specs.Reading.{Log, accepted, rejected, read_log}
 use Rattle.verdict_file.specs.Files.{allowed, file_of}
 use Rattle.verdict_file.specs.Fitting.{schedule_fits}
 use Rattle.schedules.specs.Schedules.{read_schedule}

@@ -6,16 +6,16 @@
 mod walking;
 
 ghost use Rattle.std.specs.Prelude.{◌≡◌, length};
-ghost use Rattle.log.specs.Records.{Records, system_of};
-ghost use Rattle.log.specs.Reading.{accepted, read_log};
-ghost use Rattle.log.specs.Answers.{head_of};
+ghost use Rattle.log_bytes.specs.Records.{Records, system_of};
+ghost use Rattle.log_bytes.specs.Reading.{accepted, read_log};
+ghost use Rattle.log_bytes.specs.Answers.{head_of};
 ghost use Rattle.schedules.specs.Schedules.{read_schedule};
 ghost use Rattle.replay.specs.Replaying.{with_schedule, replay_log};
 ghost use Rattle.replay.specs.Answers.{answer_of};
 
 use cursors::opening::open;
 use fields::Refusal;
-use log::Head;
+use log_bytes::Head;
 use reader::{Reading, read};
 use schedules::{FIRST, Scheduled, read_schedule};
 use walking::{Place, walk};

@@ -7,7 +7,7 @@ ghost use Rattle.model.specs.Schedule.{silent_of};
 ghost use Rattle.model.specs.Meaning.{topology_of, attempt};
 ghost use Rattle.model.specs.declared.Topology.{Topology};
 ghost use Rattle.states.specs.States.{state_of, outcome_of};
-ghost use Rattle.log.specs.Payloads.{Numbers, event_with};
+ghost use Rattle.log_bytes.specs.Payloads.{Numbers, event_with};
 ghost use Rattle.cursors.specs.Cursors.{event_at};
 ghost use Rattle.schedules.specs.Answers.{step_of};
 ghost use Rattle.replay.specs.Replaying.{Answer};

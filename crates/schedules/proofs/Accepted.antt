@@ -14,7 +14,7 @@ use Rattle.model.specs.Cxl0.{Topology}
 use Rattle.model.specs.Schedule.{Step}
 use Rattle.model.proofs.Tests.{T→true, true→T}
 use Rattle.fields.specs.Numbers.{bytes_of}
-use Rattle.log.specs.Bytes.{field}
+use Rattle.log_bytes.specs.Bytes.{field}
 use Rattle.verdict_file.specs.Files.{allowed, header, step_field, step_fields, end, file_of}
 use Rattle.verdict_file.specs.Answers.{gives}
 use Rattle.verdict_file.specs.Writing.{answer, output}

@@ -9,7 +9,7 @@ use lib.ListN.{length, drop, length-drop}
 use lib.Seq.{drop-drop}
 use borrow.Author.Tests.{le-leb, ne_eqb}
 use Rattle.model.specs.Schedule.{Step}
-use Rattle.log.proofs.Checks.{clash}
+use Rattle.log_bytes.proofs.Checks.{clash}
 use Rattle.schedules.specs.Schedules.{starts, begins, is_end, first_step, step_at, read_steps}
 use Rattle.schedules.proofs.Fields.{passed, long}
 

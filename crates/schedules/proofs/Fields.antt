@@ -9,7 +9,7 @@ use lib.Dec.{leb, eqb}
 use lib.ListN.{length, get_or, drop}
 use borrow.Author.Tests.{le-leb, leb-true, eqb-true}
 use Rattle.fields.specs.Numbers.{bytes_of}
-use Rattle.log.specs.Bytes.{field}
+use Rattle.log_bytes.specs.Bytes.{field}
 use Rattle.verdict_file.specs.Files.{header}
 use Rattle.schedules.specs.Schedules.{starts, begins, says_allowed}
 

@@ -71,7 +71,7 @@ events_two w j (suc m) n =
 pub events_all : (P : Event → Type 0) (w : List ℕ) (j m : ℕ)
     → ((i : ℕ) → j ≤ i → i < j + m → P (event_in w i)) → (e : Event) → Memᴰ e (events_from w j m) → P e
 unfolding events_from
-events_all P w j zero each e m = absurd (Memᴰ.not_nil m)
+events_all P w j zero each e m = absurd (Memᴰ.not-nil m)
 events_all P w j (suc n) each e m =
     ⊎_elim
     (λ q. rw q (each j (le_refl j) (omega arith)))

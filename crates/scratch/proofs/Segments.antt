@@ -89,7 +89,7 @@ member_at (a ∷ l) (suc j) h = Memᴰ.tail (member_at l j (omega arith))
 
 all_members : (P : ℕ → Type 0) (l : List ℕ) → ((j : ℕ) → j < length l → P (get_or l j 0))
     → (v : ℕ) → Memᴰ v l → P v
-all_members P [] h v m = absurd (Memᴰ.not_nil m)
+all_members P [] h v m = absurd (Memᴰ.not-nil m)
 all_members P (a ∷ l) h v m =
     ⊎_elim
     (λ e. rw e (h 0 (omega arith)))

@@ -54,9 +54,9 @@ pub leading_none : (s : Site) → Leading s [] [] (state 0 0 s.initial)
 unfolding in_order weave weave_from steps start_at
 leading_none s =
     record {
-      own = λ p i. absurd (Memᴰ.not_nil i);
+      own = λ p i. absurd (Memᴰ.not-nil i);
       order = tt;
-      early = λ p i. absurd (Memᴰ.not_nil i);
+      early = λ p i. absurd (Memᴰ.not-nil i);
       runs = λ sys d. rw (begins d) (runs_to_none sys s.location.0);
     }
 

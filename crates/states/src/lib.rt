@@ -9,13 +9,13 @@ use entries::Entry;
 use model::LOCATIONS;
 
 // The locations' entries.
-#[derive(Drop)]
+#[derive(Clone, Copy)]
 pub struct State {
     pub entries: [Entry; LOCATIONS],
 }
 
 // The answer to an action: whether it was possible, and the state after it or, if it was not, the same state.
-#[derive(Drop)]
+#[derive(Clone, Copy)]
 pub struct Stepped {
     pub possible: bool,
     pub state: State,

@@ -3,7 +3,7 @@ use Prim.Native.Nat.{ℕ, ◌<◌}
 use mathlib.Core.Path.{◌≡◌}
 use mathlib.Core.List.{List}
 use lib.ListN.{take}
-use Rattle.log.proofs.Lengths.{log_most, bounded}
+use Rattle.log_bytes.proofs.Lengths.{log_most, bounded}
 use Rattle.judge.specs.Judging.{judgement}
 
 -- What the judge answers and leaves with the first n bytes is what it does with the whole input.

@@ -5,7 +5,7 @@
 
 use fields::refusals::number_of;
 use judge::{Judged, judge};
-use log::LOG_MOST;
+use log_bytes::LOG_MOST;
 use schedules::{FIRST, Step, StepAt, step_at};
 use scratch::WORDS;
 use verdict_file::FILE_MOST;

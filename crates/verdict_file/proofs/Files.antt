@@ -6,7 +6,7 @@ use mathlib.Core.List.{List, [], ◌∷◌}
 use lib.ListN.{length, length-append}
 use Rattle.model.specs.Schedule.{Step}
 use Rattle.fields.specs.Numbers.{bytes_of}
-use Rattle.log.specs.Bytes.{field}
+use Rattle.log_bytes.specs.Bytes.{field}
 use Rattle.verdict_file.specs.Files.{Verdict, allowed, impossible, steps_most, file_most}
 use Rattle.verdict_file.specs.Files.{header, step_field, step_fields, end, file_of}
 

@@ -8,7 +8,7 @@ use lib.ListN.{replicate}
 use Rattle.model.specs.Schedule.{Step, in_order}
 use Rattle.model.specs.Words.{step_of_word}
 use Rattle.fields.specs.Numbers.{bytes_of}
-use Rattle.log.specs.Bytes.{field}
+use Rattle.log_bytes.specs.Bytes.{field}
 use Rattle.verdict_file.specs.Files.{Verdict, allowed, impossible}
 use Rattle.verdict_file.specs.Files.{header, step_field, step_fields, end, file_of}
 use Rattle.verdict_file.specs.Writing.{allowed_by, three_bytes, all_three_bytes, writable}

@@ -13,7 +13,7 @@ use Rattle.model.proofs.Tests.{and_l, and_r, same_test}
 use Rattle.model.specs.Schedule.{Step, in_order}
 use Rattle.model.specs.Words.{step_of_word}
 use Rattle.fields.specs.Numbers.{bytes_of}
-use Rattle.log.specs.Bytes.{field}
+use Rattle.log_bytes.specs.Bytes.{field}
 use Rattle.verdict_file.specs.Files.{steps_most, events_most, header, step_field, step_fields, end, file_of}
 use Rattle.fields.specs.Put.{put}
 use Rattle.verdict_file.specs.Writing.{allowed_by, three_bytes, all_three_bytes, writable, comes_next}

@@ -6,7 +6,7 @@ use mathlib.Core.List.{List}
 use lib.ListN.{length}
 use borrow.Rule.Slice.PartMut.{mid_of, put_mid}
 use borrow.Author.Tests.{leb-true}
-use Rattle.log.proofs.Checks.{clash}
+use Rattle.log_bytes.proofs.Checks.{clash}
 use Rattle.verdict_file.specs.Files.{Verdict, file_of, file_most}
 use Rattle.verdict_file.specs.Answers.{gives, refused}
 use Rattle.fields.specs.Put.{put}

@@ -1,7 +1,7 @@
 -- The bytes of a verdict file (document 01, "Log and verdict bytes").
 use Rattle.std.specs.Prelude.{ℕ, List, [], ◌∷◌, ◌++◌}
 use Rattle.model.specs.Schedule.{Step}
-use Rattle.log.specs.Bytes.{field}
+use Rattle.log_bytes.specs.Bytes.{field}
 
 -- A log has a run, with these silent steps, or its first impossible event is this one, counted from 1.
 pub data Verdict : Type 0 where

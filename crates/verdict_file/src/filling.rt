@@ -7,7 +7,7 @@ ghost use Rattle.fields.specs.Put.{put};
 ghost use Rattle.verdict_file.specs.Writing.{allowed_by, writable, comes_next};
 
 use crate::{FILE_MOST, STEPS_MOST, TAG_END, TAG_STEP, TAG_VERDICT};
-use log::EVENTS;
+use log_bytes::EVENTS;
 
 // The words below it are steps of three bytes.
 const WORD_END: u64 = 0x100_0000;

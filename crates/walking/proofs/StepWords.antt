@@ -25,11 +25,11 @@ at_in_order n m x (i ∷ is) h =
     (in_order_cons n m (step_at n x i) (map (step_at n x) is)).1 (omega arith, h, at_in_order n m x is h)
 
 pub at_own : (n x : ℕ) (is : List Machine) (p : Step) → Memᴰ p (map (step_at n x) is) → p.location ≡ x
-at_own n x [] p m = absurd (Memᴰ.not_nil m)
+at_own n x [] p m = absurd (Memᴰ.not-nil m)
 at_own n x (i ∷ is) p m = ⊎_elim (ap (λ (q : Step). q.location)) (at_own n x is p) (Memᴰ.cases_cons m)
 
 pub at_before : (n x : ℕ) (is : List Machine) (p : Step) → Memᴰ p (map (step_at n x) is) → p.before ≡ n
-at_before n x [] p m = absurd (Memᴰ.not_nil m)
+at_before n x [] p m = absurd (Memᴰ.not-nil m)
 at_before n x (i ∷ is) p m =
     ⊎_elim (ap (λ (q : Step). q.before)) (at_before n x is p) (Memᴰ.cases_cons m)
 

@@ -48,8 +48,8 @@ module _ (sys : Topology) (es : List Event) where
   unfolding sum
   gathered_none =
       record {
-        own = λ p m. absurd (Memᴰ.not_nil m);
-        named = λ p m. absurd (Memᴰ.not_nil m);
+        own = λ p m. absurd (Memᴰ.not-nil m);
+        named = λ p m. absurd (Memᴰ.not-nil m);
         few = omega arith;
         rise = rise_none;
         shortest = λ y h. absurd (not-suc-le-zero h);

@@ -2,7 +2,7 @@
 use native.Mathlib.Omega.{arith}
 use mathlib.Core.Path.{ap, ◌∙◌}
 use borrow.Author.Rules.{rules}
-use Rattle.log.proofs.Each.{bytes_by_index}
+use Rattle.log_bytes.proofs.Each.{bytes_by_index}
 use Rattle.capi.specs.Packing.{pack_converted}
 use Rattle.capi.proofs.Sizes.{converted_fits}
 use Rattle.capi.proofs.cxl0_convert.Statement.{statement}

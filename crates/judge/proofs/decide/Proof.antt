@@ -4,8 +4,8 @@ use native.Mathlib.Omega.{arith}
 use mathlib.Core.Path.{sym, ap, ◌∙◌, subst}
 use mathlib.Core.List.{List}
 use borrow.Author.Rules.{rules}
-use Rattle.log.specs.Bytes.{Bytes}
-use Rattle.log.proofs.Each.{bytes_by_index}
+use Rattle.log_bytes.specs.Bytes.{Bytes}
+use Rattle.log_bytes.proofs.Each.{bytes_by_index}
 use Rattle.cursors.specs.Opening.{Opens}
 use Rattle.cursors.proofs.Opens.{opens_accepted}
 use Rattle.scratch.specs.Clearing.{zeros}

@@ -5,9 +5,9 @@ use mathlib.Core.Bool.{true}
 use mathlib.Core.List.{List}
 use borrow.Author.Rules.{rules}
 use borrow.Author.Tests.{not-true, not-false}
-use Rattle.log.specs.Records.{Records}
-use Rattle.log.specs.Reading.{accepted, read_log}
-use Rattle.log.specs.Answers.{head_of}
+use Rattle.log_bytes.specs.Records.{Records}
+use Rattle.log_bytes.specs.Reading.{accepted, read_log}
+use Rattle.log_bytes.specs.Answers.{head_of}
 use Rattle.reader.specs.Answers.{meaning_of}
 use Rattle.reader.proofs.Heads.{accepted_head, refused_number}
 use Rattle.verdict_file.specs.Writing.{room}

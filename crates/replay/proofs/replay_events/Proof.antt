@@ -2,11 +2,11 @@
 use native.Mathlib.Omega.{arith}
 use mathlib.Core.Path.{◌≡◌, refl, sym, ap, ◌∙◌}
 use Rattle.model.specs.Meaning.{topology_of}
-use Rattle.log.specs.Records.{Records}
-use Rattle.log.specs.Reading.{accepted, read_log}
-use Rattle.log.specs.Answers.{head_of}
-use Rattle.log.proofs.Each.{bytes_by_index}
-use Rattle.log.specs.declared.Head.{Head}
+use Rattle.log_bytes.specs.Records.{Records}
+use Rattle.log_bytes.specs.Reading.{accepted, read_log}
+use Rattle.log_bytes.specs.Answers.{head_of}
+use Rattle.log_bytes.proofs.Each.{bytes_by_index}
+use Rattle.log_bytes.specs.declared.Head.{Head}
 use Rattle.cursors.specs.Opening.{Opens}
 use Rattle.cursors.proofs.Opens.{opens_accepted}
 use Rattle.verdict_file.specs.Answers.{gives}

@@ -5,7 +5,7 @@ use mathlib.Core.Path.{refl, ap₂, ◌∙◌}
 use mathlib.Core.List.{List}
 use borrow.Author.Rules.{rules}
 use Rattle.fields.specs.Numbers.{bytes_of}
-use Rattle.log.specs.Bytes.{field}
+use Rattle.log_bytes.specs.Bytes.{field}
 use Rattle.verdict_file.specs.Files.{header, end, file_of}
 use Rattle.fields.specs.Put.{put}
 use Rattle.fields.proofs.Put.{put_more}

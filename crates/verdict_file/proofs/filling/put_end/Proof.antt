@@ -4,7 +4,7 @@ use native.Mathlib.Omega.{arith}
 use mathlib.Core.Path.{refl}
 use lib.ListN.{length-set}
 use Rattle.fields.specs.Numbers.{bytes_of}
-use Rattle.log.specs.Bytes.{field}
+use Rattle.log_bytes.specs.Bytes.{field}
 use Rattle.verdict_file.specs.Files.{end}
 use Rattle.fields.proofs.Put.{put_sets}
 use Rattle.verdict_file.proofs.filling.put_end.Statement.{statement}

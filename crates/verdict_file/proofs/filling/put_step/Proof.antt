@@ -5,7 +5,7 @@ use mathlib.Core.Path.{refl}
 use lib.ListN.{length-set}
 use Rattle.model.specs.Words.{step_of_word}
 use Rattle.fields.specs.Numbers.{bytes_of}
-use Rattle.log.specs.Bytes.{field}
+use Rattle.log_bytes.specs.Bytes.{field}
 use Rattle.verdict_file.specs.Files.{step_field}
 use Rattle.fields.proofs.Put.{put_sets}
 use Rattle.verdict_file.proofs.filling.put_step.Statement.{statement}
