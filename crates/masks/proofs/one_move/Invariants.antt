@@ -1,0 +1,15 @@
+-- `masks::one_move` meets its contract. The loop's invariant: r has the codes that the move of a machine below n takes
+-- into the set.
+use Prim.Native.Nat.{◌+◌, ◌≤◌, ◌-◌}
+use native.Mathlib.Omega.{arith}
+use mathlib.Core.Path.{◌≡◌}
+use mathlib.Core.Logic.{⊎_elim}
+use Rattle.masks.specs.Sets.{Exactly}
+use Rattle.masks.proofs.OneMove.{MovesBelow, below_first, below_more, below_owner, below_last, to_none}
+use Rattle.masks.proofs.one_move.Given as goal
+
+abbrev pub invariant-loop-n : goal.invariant-loop-n
+invariant-loop-n l = (1 ≤ l.n) × (l.n ≤ 7) × Exactly l.r (MovesBelow l.k.0 l.m l.n)
+
+abbrev pub decreases-loop-n : goal.decreases-loop-n
+decreases-loop-n l = 7 - l.n
