@@ -1,13 +1,8 @@
 -- `put_text` puts a text byte by byte: the bytes passed are put.
 use Prim.Native.Nat.{◌-◌, ◌≤◌}
-use native.Mathlib.Numerals.{add-one}
-use native.Mathlib.Omega.{arith}
-use mathlib.Core.Path.{◌≡◌, sym}
-use mathlib.Core.List.{[], ◌∷◌}
+use mathlib.Core.Path.{◌≡◌}
 use lib.ListN.{length, take}
-use lib.Seq.{take-suc, take_all}
-use borrow.Author.Rules.{rules}
-use Rattle.text.proofs.Puts.{Put, and_then, after_none, put_none}
+use Rattle.text.proofs.Puts.{Put}
 use Rattle.text.proofs.put_text.Given as goal
 
 abbrev pub invariant-loop-from : goal.invariant-loop-from

@@ -4,28 +4,20 @@ use mathlib.Core.Path.{◌≡◌, sym, ◌∙◌}
 use lib.ListN.{length}
 use borrow.Author.Rules.{rules}
 use Rattle.model.specs.Meaning.{topology_of}
-use Rattle.model.proofs.Tests.{nothing}
 use Rattle.model.proofs.Limits.{mapped, listed_e, home_at, at_nowhere}
 use Rattle.model.proofs.Topology.home.Goals as goal
 
 pub bounds-self-at : goal.bounds-self-at
 bounds-self-at c =
-    let room : length c.args.self.homes ≡ 32 =
-    search mapped in
-    let listed : let h = c.args in (h.x.0 < h.t1.locations) × (h.x.0 < 32) =
-    listed_e c.args.self room c.args.x.0 (sym c.is_location.ensures ∙ c.if-is_location.true) in
-    listed.1
+    let room : length c.args.self.homes ≡ 32 = search mapped in
+    (listed_e c.args.self room c.args.x.0 (sym c.is_location.ensures ∙ c.if-is_location.true)).1
 
 pub returns-then-is_location : goal.returns-then-is_location
 returns-then-is_location c =
-    let room : length c.args.self.homes ≡ 32 =
-    search mapped in
-    let listed : let h = c.args in (h.x.0 < h.t1.locations) × (h.x.0 < 32) =
-    listed_e c.args.self room c.args.x.0 (sym c.is_location.ensures ∙ c.if-is_location.true) in
-    let h = c.args in
-    home_at h.t1 h.x.0 listed.0
+    let room : length c.args.self.homes ≡ 32 = search mapped in
+    let listed = listed_e c.args.self room c.args.x.0 (sym c.is_location.ensures ∙ c.if-is_location.true) in
+    home_at c.args.self c.args.x.0 listed.0
 
 pub returns-else-is_location : goal.returns-else-is_location
 returns-else-is_location c =
-    let h = c.args in
-    at_nowhere (topology_of h.t1) h.x.0 (sym c.is_location.ensures ∙ c.if-is_location.false)
+    at_nowhere (topology_of c.args.self) c.args.x.0 (sym c.is_location.ensures ∙ c.if-is_location.false)
