@@ -21,11 +21,11 @@ loop-n-smaller c = omega arith
 pub loop-n-preserved : goal.loop-n-preserved
 loop-n-preserved c =
     let a = c.args in
-    let lose = rw c.holds.ensures c c.losing_if-r.ensures in
+    let lose = rw c.holds.ensures at c.losing_if-r.ensures in
     (omega arith, omega arith, rw (add-one c.loop-n.n) (lost_more a.m a.d c.loop-n.invariant.2 _ lose))
 
 pub returns : goal.returns
 returns c =
     let a = c.args in
     let last : c.loop-n.n ≡ 7 = omega arith in
-    lost_all a.m a.d (rw last c c.loop-n.invariant.2)
+    lost_all a.m a.d (rw last at c.loop-n.invariant.2)

@@ -3,10 +3,10 @@
 use Prim.Native.Nat.{◌+◌, ◌≤◌, ◌-◌}
 use native.Mathlib.Omega.{arith}
 use mathlib.Core.Path.{◌≡◌}
-use mathlib.Core.Logic.{⊎_elim}
 use Rattle.masks.specs.Sets.{Exactly}
 use Rattle.masks.proofs.OneMove.{MovesBelow, below_first, below_more, below_owner, below_last, to_none}
 use Rattle.masks.proofs.one_move.Goals as goal
+use Rattle.masks.proofs.one_move.Goals.{then-n-k, else-n-k}
 
 pub returns-then-m-le1 : goal.returns-then-m-le1
 returns-then-m-le1 c = to_none _ c.requires _ c.if-m-le1.true
@@ -30,13 +30,12 @@ loop-n-preserved c =
     let k = c.args.k.0 in
     let s = c.loop-n.invariant.2 in
     let near = c.gaining-near in
-    let more : Exactly c.if-n-k.r (MovesBelow k m (c.loop-n.n + 1)) = ⊎_elim
-    (λ (other, w, e).
-    rw e
-    (below_more k c.requires m c.loop-n.n c.loop-n.r s near.result w.result other.taken
-    near.ensures w.ensures))
-    (λ (same, e). rw e (below_owner k c.requires m c.loop-n.n c.loop-n.r s same.left))
-    c.if-n-k.branch in
+    let more : Exactly c.if-n-k.r (MovesBelow k m (c.loop-n.n + 1)) = elim c.if-n-k.branch [
+      | then-n-k w ↦ rw w.r-is
+          (below_more k c.requires m c.loop-n.n c.loop-n.r s near.result w.giving_up-r.result w.if-n-k.true
+          near.ensures w.giving_up-r.ensures)
+      | else-n-k w ↦ rw w.r-is (below_owner k c.requires m c.loop-n.n c.loop-n.r s w.if-n-k.false)
+    ] in
     (omega arith, omega arith, more)
 
 pub returns : goal.returns

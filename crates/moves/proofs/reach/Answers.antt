@@ -19,6 +19,11 @@ returns-then-k-gt6 c = none _ _ (λ l h b. omega arith)
 pub returns-then-code-gt63 : goal.returns-then-code-gt63
 returns-then-code-gt63 c = none _ _ (λ l h b. omega arith)
 
+pub bounds-at : goal.bounds-at
+bounds-at c =
+    let a = c.args in
+    omega (arith, exchange_fits a.owner.0 a.code (omega arith) (omega arith), c.exchanged-at.ensures)
+
 pub returns : goal.returns
 unfolding number entries kept moved has insert remove
 returns c =

@@ -20,7 +20,7 @@ unfolding outcome_of
 returns-then-not-r c =
     let goes : (a : Answer) →
     let h = c.args in
-    Stands h.log.now h.schedule.now h.t h.events a h.ahead (start (topology_of h.t)) h.start → Goes h.log.now h.schedule.now h.t h.events a (c.loop-left.false - 1) (state_of h.t c.loop-left.s)
+    Stands h.log.now h.schedule.now h.t h.events a h.ahead (start (topology_of h.t)) h.start → Goes h.log.now h.schedule.now h.t h.events a (c.loop-left.left - 1) (state_of h.t c.loop-left.s)
     c.loop-left.w c.next_at-next.result =
     λ a g. let some = c.loop-left-test.true in
     c.next_at-next.ensures _ _ a _ (one_ahead (c.loop-left.invariant a g) (omega arith)) in
@@ -36,7 +36,7 @@ unfolding outcome_of
 loop-left-preserved c =
     let goes : (a : Answer) →
     let h = c.args in
-    Stands h.log.now h.schedule.now h.t h.events a h.ahead (start (topology_of h.t)) h.start → Goes h.log.now h.schedule.now h.t h.events a (c.loop-left.false - 1) (state_of h.t c.loop-left.s)
+    Stands h.log.now h.schedule.now h.t h.events a h.ahead (start (topology_of h.t)) h.start → Goes h.log.now h.schedule.now h.t h.events a (c.loop-left.left - 1) (state_of h.t c.loop-left.s)
     c.loop-left.w c.next_at-next.result =
     λ a g. let some = c.loop-left-test.true in
     c.next_at-next.ensures _ _ a _ (one_ahead (c.loop-left.invariant a g) (omega arith)) in

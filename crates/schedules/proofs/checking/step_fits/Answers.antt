@@ -23,7 +23,7 @@ pub returns-then-t-x : goal.returns-then-t-x
 unfolding step_fits
 returns-then-t-x c =
     let a = c.args in
-    rw (unlisted a.t1 a.p.location.0 c.if-t-x.true)
+    rw (unlisted a.t a.p.location.0 c.if-t-x.true)
 
 pub returns-then-t-p : goal.returns-then-t-p
 unfolding step_fits topology_of
@@ -32,8 +32,8 @@ returns-then-t-p c =
     search mapped in
     let a = c.args in
     rw (
-      listed a.t1 a.p.location.0 c.if-t-x.false (omega (arith, homes)),
-      lt-leb a.p.machine.0 a.t1.machines c.if-t-p.true,
+      listed a.t a.p.location.0 c.if-t-x.false (omega (arith, homes)),
+      lt-leb a.p.machine.0 a.t.machines c.if-t-p.true,
     )
 
 pub returns : goal.returns
@@ -43,7 +43,7 @@ returns c =
     search mapped in
     let a = c.args in
     rw (
-      listed a.t1 a.p.location.0 c.if-t-x.false (omega (arith, homes)),
-      le-leb a.p.machine.0 a.t1.machines c.if-t-p.false,
-      owner_of a.t1 a.p.location.0 c.if-t-x.false,
+      listed a.t a.p.location.0 c.if-t-x.false (omega (arith, homes)),
+      le-leb a.p.machine.0 a.t.machines c.if-t-p.false,
+      owner_of a.t a.p.location.0 c.if-t-x.false,
     )
