@@ -54,6 +54,7 @@ all_right (l ∷ ls) = right l && all_right ls
 
 each : (ls : List MarkedLog) → T (all_right ls) → (l : MarkedLog) → Memᴰ l ls → T (right l)
 unfolding all_right
+each [] t l i = elim i [ ]
 each (a ∷ ls) t l (Memᴰ.head e) = rw e (and_l (right a) (all_right ls) t)
 each (a ∷ ls) t l (Memᴰ.tail m) = each ls (and_r (right a) (all_right ls) t) l m
 
