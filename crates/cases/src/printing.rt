@@ -2,46 +2,48 @@
 use fields::Refusal;
 use fields::refusals::number_of;
 use replay::Replayed;
+use std::io;
 use text::put_hex;
 
-pub fn say(words: &[u8]) {
-    io::write_all(1, words);
+pub fn say(rt: &impl Print, words: &[u8]) -> io::Result<()> {
+    rt.write_all(words)
 }
 
 // A line that says so, with `not: ` in front where it is not so.
-pub fn say_so(so: bool, words: &[u8]) {
-    say(b"\n");
+pub fn say_so(rt: &impl Print, so: bool, words: &[u8]) -> io::Result<()> {
+    say(rt, b"\n")?;
     if !so {
-        say(b"not: ");
+        say(rt, b"not: ")?;
     }
-    say(words);
+    say(rt, words)
 }
 
-pub fn say_count(words: &[u8], n: usize) {
-    say(words);
-    io::print_decimal(1, n as u64);
+pub fn say_count(rt: &impl Print, words: &[u8], n: usize) -> io::Result<()> {
+    say(rt, words)?;
+    rt.print(n)
 }
 
-fn say_byte(b: u8) {
+fn say_byte(rt: &impl Print, b: u8) -> io::Result<()> {
     let mut digits = [0u8; 2];
     put_hex(&mut digits, 0, b);
-    say(&digits);
+    say(rt, &digits)
 }
 
-pub fn say_bytes(bytes: &[u8]) {
+pub fn say_bytes(rt: &impl Print, bytes: &[u8]) -> io::Result<()> {
     for at in 0..bytes.len() {
-        say_byte(bytes[at]);
+        say_byte(rt, bytes[at])?;
     }
+    Ok(())
 }
 
-pub fn say_refusal(why: Refusal) {
-    say_count(b"number ", number_of(why) as usize);
+pub fn say_refusal(rt: &impl Print, why: Refusal) -> io::Result<()> {
+    say_count(rt, b"number ", number_of(why) as usize)
 }
 
-pub fn say_replayed(r: Replayed) {
+pub fn say_replayed(rt: &impl Print, r: Replayed) -> io::Result<()> {
     match r {
-        Replayed::Yes => return say(b"yes"),
-        Replayed::No(passed) => return say_count(b"no ", passed as usize),
-        Replayed::Refused(why) => return say_refusal(why),
+        Replayed::Yes => return say(rt, b"yes"),
+        Replayed::No(passed) => return say_count(rt, b"no ", passed as usize),
+        Replayed::Refused(why) => return say_refusal(rt, why),
     }
 }

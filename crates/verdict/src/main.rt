@@ -8,6 +8,8 @@ use judge::{Judged, judge};
 use log_bytes::LOG_MOST;
 use schedules::{FIRST, Step, StepAt, step_at};
 use scratch::WORDS;
+use std::io;
+use streams::read_full;
 use verdict_file::FILE_MOST;
 
 // The most bytes that are read, one more than the longest log has: what the judge makes of them is right for the whole
@@ -98,16 +100,17 @@ fn judge_log(page: &mut [u8], log: &[u8]) -> usize {
 }
 
 // Prints the first n bytes.
-fn show(page: &[u8], n: usize) {
+fn show(rt: &impl Print, page: &[u8], n: usize) -> io::Result<()> {
     if n <= page.len() {
-        io::write_all(1, &page[..n]);
+        rt.write_all(&page[..n])?;
     }
+    Ok(())
 }
 
-fn main() {
+fn main(rt: HostRuntime) -> io::Result<()> {
     let mut input = [0u8; INPUT_MOST];
     let mut page = [0u8; PAGE];
-    let n = io::read_full(0, &mut input);
+    let n = read_full(&mut rt.stdin(), &mut input)?;
     let length = judge_log(&mut page, &input[..n]);
-    show(&page, length);
+    show(&rt, &page, length)
 }
