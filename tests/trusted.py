@@ -51,7 +51,7 @@ def faults(tree, texts):
 
 def crate_order():
     lines = (ROOT / "crates.txt").read_text().split("\n")
-    return [line.split(":")[0] for line in lines if re.match(r"\w+:", line)]
+    return [found[1] for found in map(re.compile(r"(\w+)(?: [^:]*)?:").match, lines) if found]
 
 
 def definitions(tree, found):
