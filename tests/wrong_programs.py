@@ -42,7 +42,7 @@ def edits():
 
 
 def facts_in(cell):
-    """The facts that a cell of the page names, in front of its first colon: where, and which."""
+    """The fact that a cell of the page names, in front of its first colon: where, and which."""
     return re.findall(r"`([^`]+)`", cell.split(": ")[0])
 
 
@@ -102,7 +102,7 @@ def fault(name, said, rows):
     if found is None or found[1] is None or found[2] and not FALSE.match(found[2]):
         return f"SHOWS NOTHING: {said.removeprefix(REFUSED)}"
     for words in rows:
-        if words[:2] != list(found[:2]):
+        if words != list(found[:2]):
             return f"ANOTHER FACT: the page has {', '.join(words)}, and the first one to fail is {', '.join(found[:2])}"
     return None
 
@@ -147,7 +147,7 @@ def rewritten(line, told, above):
     full = was if cell == SAME else cell
     said = told.get(name, "")
     found = fact(name.split("/")[0], said.removeprefix(REFUSED)) if said.startswith(REFUSED) else None
-    if found is None or found[1] is None or facts_in(full)[:2] == list(found[:2]):
+    if found is None or found[1] is None or facts_in(full) == list(found[:2]):
         new = full
     else:
         where = f"[`{found[0]}`](../crates/{name.split('/')[0]}/{found[0]})" if found[0].startswith("proofs/") else f"`{found[0]}`"
