@@ -4,7 +4,8 @@
 # marks as `reached` those that its proof reaches in any crate; the last line, 'logic=proved ..', counts them after
 # 'axioms=', and after 'foreign=' it names C functions that the crate declares. The check of a plain library is silent
 # about them, so each library that no other crate uses is checked as a static library. The libraries rest on none. The
-# programs rest on what std's input, output and memory rest on, and on nothing else.
+# programs rest on what std's input, output and memory rest on, and on nothing else; what none of them reaches is not
+# listed here.
 set -u
 cd "$(dirname "$0")/.." || exit 2
 fails=0
@@ -35,11 +36,11 @@ assumed() {
          }'
 }
 
-# beyond CRATE: what its check assumes that it may not. A program may assume what std says.
+# beyond CRATE WORDS: those of the words, which its check assumes, that it may not. A program may assume what std says.
 beyond() {
     local word may=''
     if [ -f "crates/$1/src/main.rt" ]; then may=$of_std; fi
-    listed "$1" | assumed | while read -r word; do
+    for word in $2; do
         case " $may " in *" $word "*) ;; *) echo "$word" ;; esac
     done
 }
@@ -55,11 +56,11 @@ fn main(rt: HostRuntime) -> std::io::Result<()> { std::fs::remove_file(&rt, "a")
 END
     echo 'unsafe extern "C" { safe fn c() -> u8; } pub fn call() -> u8 { c() }' >"$room/crates/declares/src/lib.rt"
     cd "$room" || exit 2
-    if ! beyond removes | grep -qx libc::unlink; then
+    if ! beyond removes "$(listed removes | assumed)" | grep -qx libc::unlink; then
         echo "a program that removes a file: what it assumes was not seen"
         fails=1
     fi
-    if ! beyond declares | grep -qE '^(foreign=.*|nothing-proved)$'; then
+    if ! beyond declares "$(listed declares | assumed)" | grep -qE '^(foreign=.*|nothing-proved)$'; then
         echo "a library with a C function: it was not seen"
         fails=1
     fi
@@ -70,12 +71,20 @@ END
 try_itself
 crates=$(sed -nE 's/^(\w+)( [^:]*)?:.*/\1/p' crates.txt)
 [ -n "$crates" ] || fails=1
+reached=''
 for name in $crates; do
     if sed -nE 's/^\w+[^:#]*:([^#]*).*/\1/p' crates.txt | grep -qw "$name"; then continue; fi
-    found=$(beyond "$name" | paste -sd ' ')
+    words=$(listed "$name" | assumed)
+    reached="$reached $words"
+    found=$(beyond "$name" "$words" | paste -sd ' ')
     if [ -n "$found" ]; then
         echo "$name assumes more than it may: $found"
         fails=1
     fi
 done
+unreached=$(for word in $of_std; do grep -qxF "$word" <<<"${reached// /$'\n'}" || echo "$word"; done | paste -sd ' ')
+if [ -n "$unreached" ]; then
+    echo "no program reaches $unreached: take it out of of_std"
+    fails=1
+fi
 exit "$fails"

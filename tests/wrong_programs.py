@@ -24,9 +24,10 @@ LOG = ROOT / "target" / "log" / "rt-ci"
 # What `rt` says of an edit. Of a refusal the first 160 characters follow of the first thing that the prover said.
 TOLD = re.compile(r"^rt: must-fail (\w+/[\w.-]+)\.edit: (.*)$", re.M)
 REFUSED = "refused, as it must be: "
-# Where an error is, the fact, and what is said of it; and the same of a goal that no proof file answers.
+# Where an error is, the fact, and what is said of it; and the same of a goal that no proof file answers, whose name may be
+# cut off.
 ERROR = re.compile(r"(?:\./)?((?:src|specs|proofs)/\S+?):(\d+):\d+: error: (?:`([^`]+)`: )?(.*)")
-OPEN = re.compile(r"note: (?:\./)?(src/\S+?):(\d+):\d+: it is not proved that .*?\(`([^`]+)`\)")
+OPEN = re.compile(r"note: (?:\./)?(src/\S+?):(\d+):\d+: it is not proved that .*?\(`([^`]+)(?:`|$)")
 # What is said of a fact that does not hold. Anything else is of a tactic or a name that no longer fits.
 FALSE = re.compile(r"as printed, the two |computed as far as they go, the two |expected type |`omega`: the goal does not follow "
                    r"|`search`: no proof of |`search` did not prove |give a proof of that as the last argument|`[^`]*`\s+≟ ")
