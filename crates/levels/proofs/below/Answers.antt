@@ -1,5 +1,4 @@
 -- `levels::below` meets its contract.
-use borrow.Author.Rules.{rules}
 use borrow.Author.Tests.{eq-eqb, ne_eqb}
 use Rattle.levels.proofs.below.Goals as goal
 

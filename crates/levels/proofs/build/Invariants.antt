@@ -1,7 +1,6 @@
 -- `build` meets its contract. The loop's invariant: the passes below the level are made, and none at r or above.
 use Prim.Native.Nat.{◌-◌, ◌≤◌, ◌<◌}
-use native.Mathlib.Omega.{arith}
-use Rattle.levels.proofs.Counting.{Reached, reached_none, passable, reached_more, built}
+use Rattle.levels.proofs.Counting.{Reached}
 use Rattle.levels.proofs.build.Given as goal
 
 abbrev pub invariant-loop-level : goal.invariant-loop-level

@@ -1,5 +1,4 @@
 -- `levels::ending` meets its contract, by how the stretch closes.
-use borrow.Author.Rules.{rules}
 use native.Mathlib.Omega.{arith}
 use Rattle.masks.proofs.Sets.{in_none}
 use Rattle.levels.proofs.Endings.{beside, asks_nothing, reads_either, reads_copies, reads_other}

@@ -1,5 +1,5 @@
 -- `fewest` meets its contract. The loop's invariant: the levels below the one at hand have been tried.
-use Prim.Native.Nat.{ℕ, ◌-◌, ◌≤◌}
+use Prim.Native.Nat.{ℕ, ◌≤◌}
 use native.Mathlib.Omega.{arith}
 use mathlib.Core.Path.{◌≡◌, refl, sym, ◌∙◌}
 use mathlib.Core.Bool.{Bool, true, false, true≢false, not, ◌&&◌}
@@ -8,7 +8,7 @@ use lib.ListN.{length}
 use Rattle.model.proofs.Tests.{true→T}
 use Rattle.masks.specs.Sets.{In}
 use Rattle.levels.specs.Tasks.{level_in}
-use Rattle.levels.proofs.Counting.{Tried, tried_none, passable, found, tried_more, full, exhausted}
+use Rattle.levels.proofs.Counting.{tried_none, passable, found, tried_more, full, exhausted}
 use Rattle.levels.proofs.fewest.Goals as goal
 
 pub loop-level-init : goal.loop-level-init

@@ -1,5 +1,4 @@
 -- `levels::gap` meets its contract, by whether a write-back pays.
-use borrow.Author.Rules.{rules}
 use native.Mathlib.Nat.{le_refl}
 use Rattle.levels.specs.Tasks.{back_in}
 use Rattle.levels.proofs.Gaps.{pays, pays_not, gap_dry, gap_back}

@@ -1,5 +1,4 @@
 -- `levels::onward` meets its contract, at the last gap and at the others.
-use borrow.Author.Rules.{rules}
 use Prim.Native.Nat.{◌<◌}
 use native.Mathlib.Nat.{le_refl}
 use native.Mathlib.Omega.{arith}

@@ -2,7 +2,7 @@
 use Prim.Native.Nat.{◌-◌}
 use native.Mathlib.Omega.{arith}
 use Rattle.levels.specs.Tasks.{Ready}
-use Rattle.levels.proofs.Passes.{Passing, passing_none, passing_more, passed, ready_gap}
+use Rattle.levels.proofs.Passes.{passing_none, passing_more, passed, ready_gap}
 use Rattle.levels.proofs.pass.Goals as goal
 
 pub overflow_add-t : goal.overflow_add-t

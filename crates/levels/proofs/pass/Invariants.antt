@@ -1,8 +1,5 @@
 -- `levels::pass` meets its contract. The loop's invariant: the pass has reached gap t.
-use Prim.Native.Nat.{◌-◌}
-use native.Mathlib.Omega.{arith}
-use Rattle.levels.specs.Tasks.{Ready}
-use Rattle.levels.proofs.Passes.{Passing, passing_none, passing_more, passed, ready_gap}
+use Rattle.levels.proofs.Passes.{Passing}
 use Rattle.levels.proofs.pass.Given as goal
 
 abbrev pub invariant-loop-t : goal.invariant-loop-t

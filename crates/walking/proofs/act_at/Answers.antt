@@ -1,5 +1,4 @@
 -- `act_at` meets its contract.
-use Rattle.model.proofs.Tests.{nothing}
 use Rattle.walking.proofs.Acting.{acts}
 use Rattle.walking.proofs.act_at.Goals as goal
 

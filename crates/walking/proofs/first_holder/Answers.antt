@@ -1,6 +1,5 @@
 -- `first_holder` meets its contract: the machine of the least bit of the code.
 use native.Mathlib.Omega.{arith}
-use borrow.Author.Rules.{rules}
 use Rattle.walking.proofs.Holders.{least_low, least_first}
 use Rattle.walking.proofs.first_holder.Goals as goal
 

@@ -5,7 +5,6 @@ use mathlib.Core.Path.{sym, ◌∙◌}
 use mathlib.Core.Logic.{◌≢◌}
 use mathlib.Core.Bool.{true≢false}
 use mathlib.Core.List.{[]}
-use borrow.Author.Rules.{rules}
 use Rattle.model.specs.OneLocation.{Moves}
 use Rattle.rows.specs.Rows.{Fine}
 use Rattle.walking.specs.Trails.{none, leaving}
@@ -28,28 +27,21 @@ returns-then-fine c =
       c.fine.ensures.0 c.if-fine.true,
     )
 
-pub write_back-requires : goal.write_back-requires
-write_back-requires c =
-    let drained : let a : _ = c.args in
-    (a.p.code ≢ 0) × Fine a.row 0 a.u =
+-- Where the row has no code but 0 at the place's memory value, a write-back leads into it.
+pub write_back-requires-clause-code_bound : goal.write_back-requires-clause-code_bound
+write_back-requires-clause-code_bound c =
     let a = c.args in
+    let drained : (a.p.code ≢ 0) × Fine a.row 0 a.u =
     enters_drained a.site.owner.0 c.requires.one_to_six a.row a.p.code a.p.memory
     c.codes-wanted.result c.requires.code_bound.0 c.codes-wanted.ensures (omega arith)
     a.u c.requires.code_bound.1
     (λ f. true≢false (sym (c.fine.ensures.1 f) ∙ c.if-fine.false)) in
-    let w = drained in
-    let r = (omega arith, (omega arith, (omega arith, w.0))) in
-    record {
-      end_in_bounds = r.0;
-      one_to_six = r.1.0;
-      code_bound = r.1.1;
-    }
+    (omega arith, drained.0)
 
 pub returns-then-wanted-lt2 : goal.returns-then-wanted-lt2
 returns-then-wanted-lt2 c =
-    let drained : let a : _ = c.args in
-    (a.p.code ≢ 0) × Fine a.row 0 a.u =
     let a = c.args in
+    let drained : (a.p.code ≢ 0) × Fine a.row 0 a.u =
     enters_drained a.site.owner.0 c.requires.one_to_six a.row a.p.code a.p.memory
     c.codes-wanted.result c.requires.code_bound.0 c.codes-wanted.ensures (omega arith)
     a.u c.requires.code_bound.1
@@ -57,15 +49,15 @@ returns-then-wanted-lt2 c =
     let state = c.write_back.ensures.code_value in
     (c.write_back.ensures.moved, rw (state.0, state.1) drained.1)
 
+-- The least code of both sets is one that moves reach and the row has.
 pub move_to-end-requires : goal.move_to-end-requires
 move_to-end-requires c =
-    let entered : let a : _ = c.args in
-    let d : _ = c.lowest-d.result in
-    (d < 64) × Moves a.site.owner.0 a.p.code d × Fine a.row d a.p.memory =
     let a = c.args in
+    let d = c.lowest-d.result in
+    let entered : (d < 64) × Moves a.site.owner.0 a.p.code d × Fine a.row d a.p.memory =
     enters_moves a.site.owner.0 c.requires.one_to_six a.row a.p.code a.p.memory
     c.reach.result c.codes-wanted.result c.requires.code_bound.0
-    c.reach.ensures c.codes-wanted.ensures c.lowest-d.result c.lowest-d.ensures.0 in
+    c.reach.ensures c.codes-wanted.ensures d c.lowest-d.ensures.0 in
     record {
       at_in_bounds = omega arith;
       c_bound = (omega arith, entered.0);
@@ -74,48 +66,37 @@ move_to-end-requires c =
 -- Moves lead to a code that the row has.
 pub returns-then-there-ne0 : goal.returns-then-there-ne0
 returns-then-there-ne0 c =
-    let entered : let a : _ = c.args in
-    let d : _ = c.lowest-d.result in
-    (d < 64) × Moves a.site.owner.0 a.p.code d × Fine a.row d a.p.memory =
     let a = c.args in
+    let d = c.lowest-d.result in
+    let entered : (d < 64) × Moves a.site.owner.0 a.p.code d × Fine a.row d a.p.memory =
     enters_moves a.site.owner.0 c.requires.one_to_six a.row a.p.code a.p.memory
     c.reach.result c.codes-wanted.result c.requires.code_bound.0
-    c.reach.ensures c.codes-wanted.ensures c.lowest-d.result c.lowest-d.ensures.0 in
-    let a = c.args in
-    let k = a.site.owner.0 in
-    let d = c.lowest-d.result in
-    let m = entered in (
+    c.reach.ensures c.codes-wanted.ensures d c.lowest-d.ensures.0 in
+    let k = a.site.owner.0 in (
       record {
         machines = leaving k a.p.code d 6;
         few = leaving_few k a.p.code d 6;
         noted = c.move_to-end.ensures;
-        trail = leaving_trail c.requires.one_to_six c.requires.code_bound.0 m.1 a.u a.p.memory;
-        fits = m.0;
+        trail = leaving_trail c.requires.one_to_six c.requires.code_bound.0 entered.1 a.u a.p.memory;
+        fits = entered.0;
       },
-      m.2,
+      entered.2,
     )
 
-pub write_back-requires-2 : goal.write_back-requires-2
-write_back-requires-2 c =
-    let written : let a : _ = c.args in
-    (a.p.code ≢ 0) × Fine a.row 0 a.u =
+-- Where no moves do, a write-back leads into the row.
+pub write_back-requires-2-clause-code_bound : goal.write_back-requires-2-clause-code_bound
+write_back-requires-2-clause-code_bound c =
     let a = c.args in
+    let written : (a.p.code ≢ 0) × Fine a.row 0 a.u =
     enters_written a.site.owner.0 c.requires.one_to_six a.row a.p.code a.p.memory
     c.reach.result c.codes-wanted.result c.requires.code_bound.0
     c.reach.ensures c.codes-wanted.ensures a.u c.requires.code_bound.1 c.if-there-ne0.false in
-    let w = written in
-    let r = (omega arith, (omega arith, (omega arith, w.0))) in
-    record {
-      end_in_bounds = r.0;
-      one_to_six = r.1.0;
-      code_bound = r.1.1;
-    }
+    (omega arith, written.0)
 
 pub returns : goal.returns
 returns c =
-    let written : let a : _ = c.args in
-    (a.p.code ≢ 0) × Fine a.row 0 a.u =
     let a = c.args in
+    let written : (a.p.code ≢ 0) × Fine a.row 0 a.u =
     enters_written a.site.owner.0 c.requires.one_to_six a.row a.p.code a.p.memory
     c.reach.result c.codes-wanted.result c.requires.code_bound.0
     c.reach.ensures c.codes-wanted.ensures a.u c.requires.code_bound.1 c.if-there-ne0.false in

@@ -1,5 +1,4 @@
 -- `gives_up` meets its contract.
-use borrow.Author.Rules.{rules}
 use Rattle.walking.specs.Trails.{gives_up}
 use Rattle.walking.proofs.gives_up.Goals as goal
 

@@ -1,10 +1,9 @@
 -- `move_to` meets its contract. The loop's invariant: those of machines 1 to n - 1 that give up are noted.
-use Prim.Native.Nat.{ℕ, suc, ◌+◌, ◌-◌, ◌≤◌}
+use Prim.Native.Nat.{suc, ◌+◌, ◌≤◌}
 use native.Mathlib.Omega.{arith}
 use mathlib.Core.Path.{◌≡◌, refl}
 use lib.ListN.{length, length-map}
 use Rattle.walking.specs.Trails.{gives_up, leaving, word_of}
-use Rattle.walking.specs.Walks.{Noted}
 use Rattle.scratch.proofs.Stored.{stored_none, stored_length}
 use Rattle.walking.proofs.StepWords.{stored_if}
 use Rattle.walking.proofs.Givers.{leaving_few}

@@ -1,13 +1,8 @@
 -- `move_to` meets its contract. The loop's invariant: those of machines 1 to n - 1 that give up are noted.
-use Prim.Native.Nat.{ℕ, suc, ◌+◌, ◌-◌, ◌≤◌}
-use native.Mathlib.Omega.{arith}
-use mathlib.Core.Path.{◌≡◌, refl}
-use lib.ListN.{length, length-map}
-use Rattle.walking.specs.Trails.{gives_up, leaving, word_of}
+use Prim.Native.Nat.{ℕ, suc, ◌-◌, ◌≤◌}
+use mathlib.Core.Path.{◌≡◌}
+use Rattle.walking.specs.Trails.{leaving}
 use Rattle.walking.specs.Walks.{Noted}
-use Rattle.scratch.proofs.Stored.{stored_none, stored_length}
-use Rattle.walking.proofs.StepWords.{stored_if}
-use Rattle.walking.proofs.Givers.{leaving_few}
 use Rattle.walking.proofs.move_to.Given as goal
 
 abbrev pub invariant-loop-n : goal.invariant-loop-n

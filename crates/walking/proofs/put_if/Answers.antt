@@ -1,5 +1,4 @@
 -- `put_if` meets its contract.
-use borrow.Author.Rules.{rules}
 use Rattle.scratch.proofs.Stored.{stored_none, stored_one}
 use Rattle.walking.proofs.put_if.Goals as goal
 

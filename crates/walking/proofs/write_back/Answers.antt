@@ -4,7 +4,6 @@ use mathlib.Core.Path.{refl}
 use mathlib.Core.List.{[]}
 use mathlib.Core.Bool.{true, not}
 use lib.ListN.{length-append}
-use borrow.Author.Rules.{rules}
 use Rattle.model.specs.Sharers.{has}
 use Rattle.walking.specs.Trails.{one_if, draining, word_of}
 use Rattle.scratch.proofs.Stored.{stored_none, stored_length}

@@ -1,5 +1,4 @@
 -- `weigh` finds a sound verdict.
-use borrow.Author.Rules.{rules}
 use Rattle.weighing.specs.Visiting.{Visited}
 use Rattle.weighing.proofs.Concluding.{concluded_impossible, steps_listed, concluded_allowed}
 use Rattle.weighing.proofs.weigh.Goals as goal

@@ -1,17 +1,12 @@
 -- `events::picking::pick_events` meets its contract. The loop's invariant: events are picked up to an index.
-use Prim.Native.Nat.{◌-◌, ◌≤◌, ◌<◌}
-use native.Mathlib.Omega.{arith}
+use Prim.Native.Nat.{◌-◌, ◌≤◌}
 use mathlib.Core.Path.{◌≡◌}
 use mathlib.Core.List.{List}
 use lib.ListN.{length}
 use Rattle.model.specs.Cxl0.{Location, Event}
 use Rattle.scratch.specs.Layout.{EVENTS, ROWS, OnlyIn}
-use Rattle.scratch.proofs.Frames.{only_none, only_then}
 use Rattle.events.specs.Linking.{head_of, Linked}
-use Rattle.events.specs.Picking.{nearer}
-use Rattle.events.proofs.Copies.{copied_frame, linked_same, linked_back}
-use Rattle.events.proofs.PickingLoop.{UpTo, pick_room, pick_none, pick_begun}
-use Rattle.events.proofs.PickingLoop.{pick_more, pick_counts, pick_done}
+use Rattle.events.proofs.PickingLoop.{UpTo}
 use Rattle.events.proofs.picking.pick_events.Given as goal
 
 abbrev pub invariant-loop-p : goal.invariant-loop-p

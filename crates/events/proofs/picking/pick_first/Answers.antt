@@ -1,5 +1,4 @@
 -- `events::picking::pick_first` meets its contract.
-use borrow.Author.Rules.{rules}
 use mathlib.Core.Path.{refl}
 use Rattle.events.proofs.picking.pick_first.Goals as goal
 

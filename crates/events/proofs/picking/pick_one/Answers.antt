@@ -1,5 +1,4 @@
 -- `events::picking::pick_one` meets its contract: by whether a crash comes first.
-use borrow.Author.Rules.{rules}
 use mathlib.Core.Path.{refl}
 use borrow.Author.Tests.{lt-ltb, le-ltb}
 use Rattle.events.proofs.picking.pick_one.Goals as goal

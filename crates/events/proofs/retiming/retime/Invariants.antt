@@ -1,10 +1,7 @@
 -- `events::retiming::retime` meets its contract. The loop's invariant: the steps from number `from` to
 -- number j are retimed, and no other word has changed.
 use Prim.Native.Nat.{◌-◌, ◌≤◌}
-use native.Mathlib.Omega.{arith}
-use mathlib.Core.Path.{◌≡◌}
 use Rattle.events.specs.Retiming.{Retimed}
-use Rattle.events.proofs.Retimings.{retimed_none, next_count, next_index, retimed_next}
 use Rattle.events.proofs.retiming.retime.Given as goal
 
 abbrev pub invariant-loop-j : goal.invariant-loop-j

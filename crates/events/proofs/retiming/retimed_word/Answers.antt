@@ -1,6 +1,5 @@
 -- `events::retiming::retimed_word` meets its contract.
 use native.Mathlib.Omega.{arith}
-use borrow.Author.Rules.{rules}
 use Rattle.events.proofs.Retimings.{word_count}
 use Rattle.events.proofs.retiming.retimed_word.Goals as goal
 

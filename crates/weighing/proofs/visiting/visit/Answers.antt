@@ -1,7 +1,6 @@
 -- `visit` searches one location more.
 use native.Mathlib.Omega.{arith}
 use mathlib.Core.Path.{refl}
-use borrow.Author.Rules.{rules}
 use Rattle.model.specs.Meaning.{topology_of}
 use Rattle.rows.specs.Sites.{Describes}
 use Rattle.weighing.proofs.Described.{described}
