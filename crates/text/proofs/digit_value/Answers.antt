@@ -1,5 +1,4 @@
 -- `digit_value` is `digit_value`: the match has its three ranges.
-use borrow.Author.Rules.{rules}
 use mathlib.Core.Path.{sym}
 use Rattle.text.proofs.Values.{digit_inside, digit_below, digit_above}
 use Rattle.text.proofs.digit_value.Goals as goal

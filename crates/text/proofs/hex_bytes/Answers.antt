@@ -1,15 +1,14 @@
 -- `hex_bytes` puts `hex_pairs` at the start of the output: what is left to put is what the pairs ahead say.
-use Prim.Native.Nat.{ℕ, ◌+◌, ◌-◌, ◌*◌, ◌≤◌}
+use Prim.Native.Nat.{ℕ, ◌+◌, ◌≤◌}
 use native.Mathlib.Omega.{arith}
 use mathlib.Core.Path.{◌≡◌, refl}
-use mathlib.Core.List.{List, ◌∷◌}
+use mathlib.Core.List.{◌∷◌}
 use lib.ListN.{length, drop, length-set, length-drop}
 use lib.Seq.{drop-drop}
-use borrow.Author.Rules.{rules}
 use Rattle.text.specs.declared.Parsed.{Parsed}
 use Rattle.text.specs.Putting.{put}
 use Rattle.text.specs.Reading.{hex_pairs, bytes_read}
-use Rattle.text.proofs.Puts.{Put, Left, left_one, left_none, left_full}
+use Rattle.text.proofs.Puts.{Put, left_one, left_none, left_full}
 use Rattle.text.proofs.Pairs.{no_byte, first_byte}
 use Rattle.text.proofs.hex_bytes.Goals as goal
 

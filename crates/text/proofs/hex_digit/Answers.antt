@@ -1,6 +1,5 @@
 -- `hex_digit` is `hex_digit`: 87 is ten below the letter a.
 use native.Mathlib.Omega.{arith}
-use borrow.Author.Rules.{rules}
 use borrow.Author.Tests.{lt-ltb, le-ltb}
 use Rattle.text.specs.Digits.{hex_digit}
 use Rattle.text.proofs.hex_digit.Goals as goal

@@ -1,6 +1,5 @@
 -- `hex_pair` gives the first of `hex_pairs`.
 use native.Mathlib.Omega.{arith}
-use borrow.Author.Rules.{rules}
 use Rattle.text.proofs.Pairs.{pair_short, pair_no_high, pair_no_low, pair_both}
 use Rattle.text.proofs.hex_pair.Goals as goal
 

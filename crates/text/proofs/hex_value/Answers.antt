@@ -1,5 +1,4 @@
 -- `hex_value` is `hex_value`: the match has its five ranges.
-use borrow.Author.Rules.{rules}
 use mathlib.Core.Path.{sym}
 use Rattle.text.proofs.Values.{hex_number, hex_letter, hex_below, hex_between, hex_above}
 use Rattle.text.proofs.hex_value.Goals as goal

@@ -1,5 +1,4 @@
 -- `put_byte` puts a text of one byte: a store where there is room, and nothing past the end.
-use borrow.Author.Rules.{rules}
 use mathlib.Core.Path.{sym}
 use Rattle.text.proofs.Puts.{put_one, put_full, after_one, after_full}
 use Rattle.text.proofs.put_byte.Goals as goal

@@ -6,7 +6,6 @@ use lib.Bits.{bit_and}
 use lib.Dec.{eqb}
 use Rattle.model.specs.Cxl0.{keeps}
 use Rattle.model.specs.Sharers.{has}
-use Rattle.model.proofs.Tests.{nothing}
 use Rattle.model.proofs.Bits.{has_byte}
 use Rattle.model.proofs.Home.keeps.Goals as goal
 

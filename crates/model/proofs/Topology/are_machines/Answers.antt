@@ -1,7 +1,6 @@
 -- `are_machines` meets its contract.
 use Rattle.model.specs.Cxl0.{named}
 use Rattle.model.specs.Meaning.{topology_of}
-use Rattle.model.proofs.Tests.{nothing}
 use Rattle.model.proofs.Topology.are_machines.Goals as goal
 
 pub returns : goal.returns

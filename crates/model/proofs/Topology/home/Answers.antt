@@ -1,8 +1,6 @@
 -- `home` meets its contract: the element of the array, or none.
-use Prim.Native.Nat.{◌<◌}
 use mathlib.Core.Path.{◌≡◌, sym, ◌∙◌}
 use lib.ListN.{length}
-use borrow.Author.Rules.{rules}
 use Rattle.model.specs.Meaning.{topology_of}
 use Rattle.model.proofs.Limits.{mapped, listed_e, home_at, at_nowhere}
 use Rattle.model.proofs.Topology.home.Goals as goal

@@ -1,6 +1,5 @@
 -- `is_location` meets its contract.
 use mathlib.Core.Path.{sym}
-use borrow.Author.Rules.{rules}
 use Rattle.model.proofs.Limits.{mapped, listed}
 use Rattle.model.proofs.Topology.is_location.Goals as goal
 

@@ -1,7 +1,6 @@
 -- `names` meets its contract.
 use mathlib.Core.Path.{ap₂}
 use mathlib.Core.Bool.{◌&&◌}
-use Rattle.model.proofs.Tests.{nothing}
 use Rattle.model.proofs.Topology.names.Goals as goal
 
 pub returns : goal.returns

@@ -1,14 +1,8 @@
 -- `owners_fit` meets its contract. The loop's invariant: the owners fit if those from `at` on fit.
-use Prim.Native.Nat.{◌+◌, ◌-◌}
-use native.Mathlib.Omega.{arith}
-use mathlib.Core.Path.{◌≡◌, refl, sym, ◌∙◌}
-use mathlib.Core.Bool.{Bool, ◌&&◌, false, true}
-use borrow.Author.Tests.{not-true, not-false}
-use borrow.Author.Rules.{rules}
-use lib.ListN.{length, drop}
+use Prim.Native.Nat.{◌-◌}
+use mathlib.Core.Path.{◌≡◌}
+use lib.ListN.{drop}
 use Rattle.model.specs.Meaning.{topology_of, owners_fit}
-use Rattle.model.proofs.Tests.{nothing}
-use Rattle.model.proofs.Limits.{mapped, fit_end, fit_more}
 use Rattle.model.proofs.Topology.owners_fit.Given as goal
 
 abbrev pub invariant-loop-at : goal.invariant-loop-at

@@ -1,6 +1,5 @@
 -- `within_limits` meets its contract.
 use mathlib.Core.Path.{◌∙◌}
-use borrow.Author.Rules.{rules}
 use mathlib.Core.Bool.{◌&&◌}
 use lib.Dec.{leb, leb→le}
 use Rattle.model.specs.Meaning.{within_limits}

@@ -1,5 +1,4 @@
 -- `bit` meets its contract: 1 shifted by i - 1 is machine i's bit.
-use borrow.Author.Rules.{rules}
 use Rattle.model.proofs.Bits.{bit_byte, no_bit, no_bit_above}
 use Rattle.model.proofs.codes.bit.Goals as goal
 

@@ -1,5 +1,4 @@
 -- `up_to` meets its contract: the low n bits are the remainder by 2 ^ n.
-use borrow.Author.Rules.{rules}
 use lib.Pow.{pow_pos}
 use Rattle.model.proofs.Bits.{shift_byte, low_byte, all_byte}
 use Rattle.model.proofs.codes.up_to.Goals as goal
