@@ -4,20 +4,21 @@ use mathlib.Core.Bool.{◌&&◌}
 use Rattle.model.specs.Cxl0.{named}
 use Rattle.model.specs.OneLocation.{location_of, is_crash}
 use Rattle.model.specs.Operations.{is_operation, event_of}
-use Rattle.model.proofs.Tests.{nothing}
 use Rattle.states.proofs.State.crash.Goals as goal
 
-pub crash_if-requires : goal.crash_if-requires
-unfolding is_operation event_of is_crash location_of named
-crash_if-requires c =
-    rw c.numbered.ensures
-    ((tt, tt), ap₂ ◌&&◌ c.within_limits.ensures c.is_machine.ensures)
+pub crash_if-requires-clause-t : goal.crash_if-requires-clause-t
+unfolding is_operation event_of is_crash location_of
+crash_if-requires-clause-t c = rw c.numbered.ensures (tt, tt)
 
-pub returns : goal.returns
+pub crash_if-requires-clause-admitted_value : goal.crash_if-requires-clause-admitted_value
+unfolding event_of named
+crash_if-requires-clause-admitted_value c =
+    rw c.numbered.ensures (ap₂ ◌&&◌ c.within_limits.ensures c.is_machine.ensures)
+
+pub returns-clause-result_value : goal.returns-clause-result_value
 unfolding event_of
-returns c =
-    record {
-      result_value = rw c.numbered.ensures at c.crash_if.ensures.result_value;
-      kept = rw c.numbered.ensures at c.crash_if.ensures.kept;
-      whole = rw c.numbered.ensures at c.crash_if.ensures.whole;
-    }
+returns-clause-result_value c = rw c.numbered.ensures at c.crash_if.ensures.result_value
+
+pub returns-clause-whole : goal.returns-clause-whole
+unfolding event_of
+returns-clause-whole c = rw c.numbered.ensures at c.crash_if.ensures.whole

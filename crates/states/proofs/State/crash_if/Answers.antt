@@ -5,7 +5,6 @@ use lib.ListN.{length}
 use Rattle.model.specs.Cxl0.{event, possible}
 use Rattle.model.specs.Meaning.{topology_of, within_limits, meant}
 use Rattle.states.specs.States.{state_of}
-use Rattle.model.proofs.Tests.{nothing}
 use Rattle.model.proofs.Limits.{mapped}
 use Rattle.states.proofs.After.{answered}
 use Rattle.states.proofs.Crashes.{can}

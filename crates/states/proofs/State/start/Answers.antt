@@ -1,10 +1,9 @@
 -- `start` meets its contract. The loop's invariant: the entries before `at` have their initial values, and the others
 -- are empty.
-use Prim.Native.Nat.{ℕ, zero, suc, ◌-◌}
+use Prim.Native.Nat.{ℕ, zero, suc}
 use native.Mathlib.Omega.{arith}
 use mathlib.Core.Path.{◌≡◌, refl, ap, ◌∙◌}
 use borrow.Author.Tests.{le-ltb}
-use borrow.Author.Rules.{rules}
 use lib.ListN.{length, get_or, length-set, replicate}
 use Rattle.model.specs.Cxl0.{Home, initial, start}
 use Rattle.model.specs.Meaning.{topology_of}
@@ -13,11 +12,10 @@ use Rattle.entries.specs.Entries.{start_entry, empty_entry}
 use Rattle.entries.specs.declared.Entry as entry
 use Rattle.states.specs.States.{state_of, start_state}
 use Rattle.states.specs.declared.State as state
-use Rattle.model.proofs.Tests.{nothing}
 use Rattle.model.proofs.Limits.{mapped}
 use Rattle.states.proofs.Filling.{one_more}
 use Rattle.states.proofs.Homes.{home_found}
-use Rattle.states.proofs.Starts.{partly, all_filled, begun}
+use Rattle.states.proofs.Starts.{all_filled, begun}
 use Rattle.states.proofs.State.start.Goals as goal
 
 same : (k x : ℕ) (e : entry.Entry) → get_or (replicate k e) x e ≡ e
