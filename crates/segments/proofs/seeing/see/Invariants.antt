@@ -1,12 +1,6 @@
--- `see` meets its contract. The loop's invariant: what is to pay from the gap at hand says what is from the first one.
-use Prim.Native.Nat.{◌-◌}
-use native.Mathlib.Omega.{arith}
-use borrow.Author.Tests.{not-true, not-false}
-use Rattle.rows.specs.Sites.{Known}
-use Rattle.scratch.specs.Words.{event_in}
-use Rattle.scratch.proofs.Events.{meant_read}
-use Rattle.walking.specs.Acting.{Acts}
-use Rattle.segments.proofs.Unmoved.{Walked, standing, walked_none, walked_more, walked_stuck, walked_all}
+-- The loop's invariant: what is to pay from the gap at hand says what is from the first one.
+use Rattle.std.proofs.Common.{◌-◌}
+use Rattle.segments.proofs.Unmoved.{Walked}
 use Rattle.segments.proofs.seeing.see.Given as goal
 
 abbrev pub invariant-loop-t : goal.invariant-loop-t
