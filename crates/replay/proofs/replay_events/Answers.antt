@@ -20,27 +20,16 @@ use Rattle.replay.proofs.replay_events.Goals as goal
 
 pub overflow_add-ahead : goal.overflow_add-ahead
 overflow_add-ahead c =
-    let told : let a = c.args in
-    gives c.in-Steps.steps
-    ≡ counted (read_schedule (topology_of c.open-o.result.topology)
-    a.head.events a.schedule.now) =
-    ap scheduled_of (sym c.in-Steps.is) ∙ c.read_schedule.ensures in
+    let told = ap scheduled_of (sym c.in-Steps.is) ∙ c.read_schedule.ensures in
     omega (arith, count_few _ _ _ _ told)
 
 pub returns-in-Steps : goal.returns-in-Steps
 returns-in-Steps c =
-    let opens : (r : Records) → let a = c.args in
-    read_log a.log.now ≡ accepted r → head_of r ≡ a.head → Opens a.log.now r c.open-o.result =
-    λ r read heads. let s = c.args.log.now in
-    let bytes = bytes_by_index s (λ i. omega (arith, c.type_inv.log i)) in
-    rw c.open-o.ensures (opens_accepted s bytes r read heads) in
-    let told : let a = c.args in
-    gives c.in-Steps.steps
-    ≡ counted (read_schedule (topology_of c.open-o.result.topology)
-    a.head.events a.schedule.now) =
-    ap scheduled_of (sym c.in-Steps.is) ∙ c.read_schedule.ensures in
+    let told = ap scheduled_of (sym c.in-Steps.is) ∙ c.read_schedule.ensures in
     λ r e h.
-    let opened = opens r e h in
+    let log = c.args.log.now in
+    let bytes = bytes_by_index log (λ i. omega (arith, c.type_inv.log i)) in
+    let opened : Opens log r c.open-o.result = rw c.open-o.ensures (opens_accepted log bytes r e h) in
     let events = ap (λ (k : Head). k.events) h in
     let (ps, read, count) = steps_read _ _ told in
     let stands = stands_first _ ps _ opened read events refl refl refl in
@@ -48,13 +37,10 @@ returns-in-Steps c =
 
 pub returns-in-Refused : goal.returns-in-Refused
 returns-in-Refused c =
-    let opens : (r : Records) → let a = c.args in
-    read_log a.log.now ≡ accepted r → head_of r ≡ a.head → Opens a.log.now r c.open-o.result =
-    λ r read heads. let s = c.args.log.now in
-    let bytes = bytes_by_index s (λ i. omega (arith, c.type_inv.log i)) in
-    rw c.open-o.ensures (opens_accepted s bytes r read heads) in
     λ r e h.
-    let opened = opens r e h in
+    let log = c.args.log.now in
+    let bytes = bytes_by_index log (λ i. omega (arith, c.type_inv.log i)) in
+    let opened : Opens log r c.open-o.result = rw c.open-o.ensures (opens_accepted log bytes r e h) in
     let events = ap (λ (k : Head). k.events) h in
     let told = ap scheduled_of (sym c.in-Refused.is) ∙ c.read_schedule.ensures in
     let (none_left, number) = none_read _ _ told in

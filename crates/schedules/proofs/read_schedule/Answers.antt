@@ -24,11 +24,11 @@ pub returns-then-not-says_allowed : goal.returns-then-not-says_allowed
 returns-then-not-says_allowed c =
     let a = c.args in
     sym (not_allowed (topology_of a.t) a.events a.file.now
-    (sym c.says_allowed.ensures ∙ not-true _ c.if-not-says_allowed.true-raw))
+    (sym c.says_allowed.ensures ∙ c.if-not-says_allowed.true))
 
 -- The file says allowed.
 says : (c : goal.Else-not-says_allowed) → says_allowed c.args.file.now ≡ true
-says c = sym c.says_allowed.ensures ∙ not-false _ c.if-not-says_allowed.false-raw
+says c = sym c.says_allowed.ensures ∙ c.if-not-says_allowed.false
 
 pub loop-steps-init : goal.loop-steps-init
 loop-steps-init c =
@@ -38,13 +38,12 @@ loop-steps-init c =
 
 pub returns-then-not-may_follow : goal.returns-then-not-may_follow
 returns-then-not-may_follow c =
-    let step : step_at (c.args.file.now) c.loop-steps.at
-    ≡ some (step_of c.in-Found.p, c.in-Found.next) =
-    sym c.step_at.ensures ∙ ap step_at_of c.in-Found.is in
+    let a = c.args in
+    let step = sym c.step_at.ensures ∙ ap step_at_of c.in-Found.is in
     let l = c.loop-steps in
-    let may = sym c.may_follow.ensures ∙ not-true _ c.if-not-may_follow.true-raw in
+    let may = sym c.may_follow.ensures ∙ c.if-not-may_follow.true in
     sym (l.invariant.2
-    ∙ misfits ((topology_of c.args.t)) (c.args.events) (c.args.file.now) l.at l.least l.steps step may)
+    ∙ misfits (topology_of a.t) a.events a.file.now l.at l.least l.steps step may)
 
 pub overflow_add-steps : goal.overflow_add-steps
 overflow_add-steps c = omega arith
@@ -54,13 +53,12 @@ loop-steps-smaller c = omega arith
 
 pub loop-steps-preserved : goal.loop-steps-preserved
 loop-steps-preserved c =
-    let step : step_at (c.args.file.now) c.loop-steps.at
-    ≡ some (step_of c.in-Found.p, c.in-Found.next) =
-    sym c.step_at.ensures ∙ ap step_at_of c.in-Found.is in
+    let a = c.args in
+    let step = sym c.step_at.ensures ∙ ap step_at_of c.in-Found.is in
     let l = c.loop-steps in
-    let may = sym c.may_follow.ensures ∙ not-false _ c.if-not-may_follow.false-raw in
-    let next = follows ((topology_of c.args.t)) (c.args.events) (c.args.file.now) l.at l.least l.steps step may in
-    (within (c.args.file.now) l.at step, omega arith, l.invariant.2 ∙ rw add-one next)
+    let may = sym c.may_follow.ensures ∙ c.if-not-may_follow.false in
+    let next = follows (topology_of a.t) a.events a.file.now l.at l.least l.steps step may in
+    (within a.file.now l.at step, omega arith, l.invariant.2 ∙ rw add-one next)
 
 pub slice_bounds-is_end-count : goal.slice_bounds-is_end-count
 slice_bounds-is_end-count c = omega arith
@@ -73,26 +71,27 @@ slice_bounds-is_end-end c = omega arith
 
 pub returns-then-not-is_end : goal.returns-then-not-is_end
 returns-then-not-is_end c =
-    let nothing : step_at (c.args.file.now) c.loop-steps.at ≡ none =
-    sym c.step_at.ensures ∙ ap step_at_of c.in-Absent.is in
+    let a = c.args in
+    let nothing = sym c.step_at.ensures ∙ ap step_at_of c.in-Absent.is in
     let l = c.loop-steps in
-    let more = rw part_drop at (sym c.is_end.ensures ∙ not-true _ c.if-not-is_end.true-raw) in
+    let more = rw part_drop at (sym c.is_end.ensures ∙ c.if-not-is_end.true) in
     sym (l.invariant.2
-    ∙ breaks ((topology_of c.args.t)) (c.args.events) (c.args.file.now) l.at l.least l.steps nothing more)
+    ∙ breaks (topology_of a.t) a.events a.file.now l.at l.least l.steps nothing more)
 
 pub returns-in-Absent : goal.returns-in-Absent
 returns-in-Absent c =
-    let nothing : step_at (c.args.file.now) c.loop-steps.at ≡ none =
-    sym c.step_at.ensures ∙ ap step_at_of c.in-Absent.is in
+    let a = c.args in
+    let nothing = sym c.step_at.ensures ∙ ap step_at_of c.in-Absent.is in
     let l = c.loop-steps in
-    let end = rw part_drop at (sym c.is_end.ensures ∙ not-false _ c.if-not-is_end.false-raw) in
+    let end = rw part_drop at (sym c.is_end.ensures ∙ c.if-not-is_end.false) in
     let few = c.loop-steps-test.true in
     sym (l.invariant.2
-    ∙ ends ((topology_of c.args.t)) (c.args.events) (c.args.file.now) l.at l.least l.steps nothing end few)
+    ∙ ends (topology_of a.t) a.events a.file.now l.at l.least l.steps nothing end few)
 
 pub returns : goal.returns
 returns c =
+    let a = c.args in
     let l = c.loop-steps in
     let many = c.loop-steps-test.false in
     sym (l.invariant.2
-    ∙ too_many ((topology_of c.args.t)) (c.args.events) (c.args.file.now) l.at l.least l.steps many)
+    ∙ too_many (topology_of a.t) a.events a.file.now l.at l.least l.steps many)

@@ -22,36 +22,28 @@ pub returns-then-not-begins_with : goal.returns-then-not-begins_with
 unfolding step_at first_step
 returns-then-not-begins_with c =
     let a = c.args in
-    let no_field = sym c.begins_with.ensures ∙ not-true _ c.if-not-begins_with.true-raw in
+    let no_field = sym c.begins_with.ensures ∙ c.if-not-begins_with.true in
     rw (← part_drop a.file.now a.at, no_field)
 
 pub bounds-rest-3 : goal.bounds-rest-3
 bounds-rest-3 c =
-    let whole : begins 0x11 3 ((let a = c.args in
-    mid_of a.at (length a.file.now - a.at) a.file.now)) ≡ true =
-    sym c.begins_with.ensures ∙ not-false _ c.if-not-begins_with.false-raw in
+    let whole = sym c.begins_with.ensures ∙ c.if-not-begins_with.false in
     omega (arith, long 0x11 3 _ whole)
 
 pub bounds-rest-4 : goal.bounds-rest-4
 bounds-rest-4 c =
-    let whole : begins 0x11 3 ((let a = c.args in
-    mid_of a.at (length a.file.now - a.at) a.file.now)) ≡ true =
-    sym c.begins_with.ensures ∙ not-false _ c.if-not-begins_with.false-raw in
+    let whole = sym c.begins_with.ensures ∙ c.if-not-begins_with.false in
     omega (arith, long 0x11 3 _ whole)
 
 pub bounds-rest-5 : goal.bounds-rest-5
 bounds-rest-5 c =
-    let whole : begins 0x11 3 ((let a = c.args in
-    mid_of a.at (length a.file.now - a.at) a.file.now)) ≡ true =
-    sym c.begins_with.ensures ∙ not-false _ c.if-not-begins_with.false-raw in
+    let whole = sym c.begins_with.ensures ∙ c.if-not-begins_with.false in
     omega (arith, long 0x11 3 _ whole)
 
 pub returns : goal.returns
 unfolding step_at first_step
 returns c =
-    let whole : begins 0x11 3 ((let a = c.args in
-    mid_of a.at (length a.file.now - a.at) a.file.now)) ≡ true =
-    sym c.begins_with.ensures ∙ not-false _ c.if-not-begins_with.false-raw in
+    let whole = sym c.begins_with.ensures ∙ c.if-not-begins_with.false in
     let a = c.args in
     let same = part_drop a.file.now a.at in
     rw (same, rw same at whole)

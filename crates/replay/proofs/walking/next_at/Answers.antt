@@ -9,20 +9,14 @@ use borrow.Author.Rules.{rules}
 use Rattle.replay.proofs.walking.next_at.Goals as goal
 
 pub returns-then-p-w : goal.returns-then-p-w
-returns-then-p-w c =
-    let found : let a = c.args in
-    step_at a.schedule.now a.w.step ≡ some (step_of c.in-Found.p, c.in-Found.next) =
-    sym c.step_at.ensures ∙ ap step_at_of c.in-Found.is in
-    λ t x a k g.
+returns-then-p-w c = λ t x a k g.
+    let found = sym c.step_at.ensures ∙ ap step_at_of c.in-Found.is in
     step_goes g _ _ _ found (omega (arith, c.if-p-w.true))
     (record { outcome = refl; passed = refl; event = refl; step = refl })
 
 pub returns-else-p-w : goal.returns-else-p-w
-returns-else-p-w c =
-    let found : let a = c.args in
-    step_at a.schedule.now a.w.step ≡ some (step_of c.in-Found.p, c.in-Found.next) =
-    sym c.step_at.ensures ∙ ap step_at_of c.in-Found.is in
-    λ t x a k g.
+returns-else-p-w c = λ t x a k g.
+    let found = sym c.step_at.ensures ∙ ap step_at_of c.in-Found.is in
     event_goes g _ _ _ found (omega (arith, c.if-p-w.false))
     (c.next_event.ensures t x)
 

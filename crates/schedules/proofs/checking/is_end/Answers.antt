@@ -7,8 +7,8 @@ use Rattle.schedules.proofs.checking.is_end.Goals as goal
 
 pub returns-then-not-begins_with : goal.returns-then-not-begins_with
 unfolding is_end
-returns-then-not-begins_with c = rw (sym c.begins_with.ensures ∙ not-true _ c.if-not-begins_with.true-raw)
+returns-then-not-begins_with c = rw (sym c.begins_with.ensures ∙ c.if-not-begins_with.true)
 
 pub returns : goal.returns
 unfolding is_end
-returns c = rw (sym c.begins_with.ensures ∙ not-false _ c.if-not-begins_with.false-raw)
+returns c = rw (sym c.begins_with.ensures ∙ c.if-not-begins_with.false)

@@ -14,8 +14,7 @@ use Rattle.schedules.proofs.checking.step_fits.Goals as goal
 pub returns-then-x-ge-LOCATIONS : goal.returns-then-x-ge-LOCATIONS
 unfolding step_fits
 returns-then-x-ge-LOCATIONS c =
-    let homes : length c.args.t.homes ≡ 32 =
-    search mapped in
+    let homes : length c.args.t.homes ≡ 32 = search mapped in
     let x : ℕ = c.args.p.location.0 in
     rw (beyond c.args.t x (omega (arith, homes)))
 
@@ -28,8 +27,7 @@ returns-then-t-x c =
 pub returns-then-t-p : goal.returns-then-t-p
 unfolding step_fits topology_of
 returns-then-t-p c =
-    let homes : length c.args.t.homes ≡ 32 =
-    search mapped in
+    let homes : length c.args.t.homes ≡ 32 = search mapped in
     let a = c.args in
     rw (
       listed a.t a.p.location.0 c.if-t-x.false (omega (arith, homes)),
@@ -39,8 +37,7 @@ returns-then-t-p c =
 pub returns : goal.returns
 unfolding step_fits topology_of
 returns c =
-    let homes : length c.args.t.homes ≡ 32 =
-    search mapped in
+    let homes : length c.args.t.homes ≡ 32 = search mapped in
     let a = c.args in
     rw (
       listed a.t a.p.location.0 c.if-t-x.false (omega (arith, homes)),
