@@ -9,7 +9,7 @@ use mathlib.Core.Logic.{⊎_elim}
 use mathlib.Core.Bool.{true, false, not, true≢false}
 use mathlib.Core.List.{List, [], ◌∷◌, append-nil}
 use lib.Dec.{T}
-use Rattle.model.specs.Cxl0.{Location, Value, Topology, owner, Event, event}
+use Rattle.model.specs.Cxl0.{Location, Value, Topology, Event, event}
 use Rattle.model.specs.Schedule.{steps}
 use Rattle.model.specs.OneLocation.{start_at, event_at}
 use Rattle.entries.specs.declared.Acted.{Acted}

@@ -23,5 +23,4 @@ returns-else-reads c =
 
 pub returns-in_default : goal.returns-in_default
 returns-in_default c =
-    let ((_, n₀), n₁) = c.in_default.in_default-own.rest in
-    beside _ _ c.if-level-q.false (reads_other _ _ _ n₀ n₁ c.single.ensures)
+    beside _ _ c.if-level-q.false (reads_other _ c.args.q.closing _ (omega arith) (omega arith) c.single.ensures)

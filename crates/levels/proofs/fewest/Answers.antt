@@ -18,9 +18,6 @@ pub pass-more-requires : goal.pass-more-requires
 pass-more-requires c =
     passable c.requires.0 c.loop-level.invariant.reached (omega (arith, c.requires.2))
 
-sized : (h : goal.After-slice_known-in-loop-level-2-1-unread) → length h.pass-more.new.w ≡ length h.args.w.now
-sized h = h.pass-more.ensures.frame.sized ∙ h.loop-level.invariant.reached.frame.sized
-
 pub overflow_add-from : goal.overflow_add-from
 overflow_add-from c =
     let ready = c.requires.0 in
@@ -34,7 +31,9 @@ offset_bounds-w-from c =
 pub bounds-w-from : goal.bounds-w-from
 bounds-w-from c =
     let ready = c.requires.0 in
-    omega (arith, ready.order, ready.few, ready.room, sized c)
+    let sized : length c.pass-more.new.w ≡ length c.args.w.now =
+    c.pass-more.ensures.frame.sized ∙ c.loop-level.invariant.reached.frame.sized in
+    omega (arith, ready.order, ready.few, ready.room)
 
 pub contains-requires : goal.contains-requires
 contains-requires c = c.requires.1

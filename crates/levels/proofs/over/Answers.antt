@@ -1,4 +1,5 @@
 -- `levels::over` meets its contract, by the operation of the event.
+use native.Mathlib.Omega.{arith}
 use mathlib.Core.Logic.Iff
 use Rattle.model.specs.Operations.{event_of}
 use Rattle.masks.specs.Sets.{In}
@@ -61,5 +62,5 @@ returns-in-11 c = rw c.in-11.is (events.set_crash _ _ _ _ c.losing_all.ensures)
 -- No event of a stretch has another number.
 pub returns-in_default : goal.returns-in_default
 returns-in_default c k u m inner =
-    let (((((_, n₄), n₅), n₆), n₇), n₁₁) = c.in_default.in_default-own.rest in
-    absurd (events.inner_number u c.args.e c.requires.operation inner n₄ n₅ n₆ n₇ n₁₁)
+    absurd (events.inner_number u c.args.e c.requires.operation inner
+    (omega arith) (omega arith) (omega arith) (omega arith) (omega arith))

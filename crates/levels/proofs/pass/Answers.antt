@@ -1,9 +1,18 @@
 -- `levels::pass` meets its contract. The loop's invariant: the pass has reached gap t.
-use Prim.Native.Nat.{◌-◌}
+use Prim.Native.Nat.{ℕ, ◌-◌, ◌<◌}
 use native.Mathlib.Omega.{arith}
+use mathlib.Core.Bool.{Bool}
+use mathlib.Core.List.{List}
+use Rattle.levels.specs.declared.Task.{Task}
 use Rattle.levels.specs.Tasks.{Ready}
-use Rattle.levels.proofs.Passes.{passing_none, passing_more, passed, ready_gap}
+use Rattle.levels.proofs.Passes.{Passing, passing_none, passing_more, passed, ready_gap}
 use Rattle.levels.proofs.pass.Goals as goal
+
+-- The area is ready for the gap before t.
+ready_before : {q : Task} {from level t rest : ℕ} {more : Bool} {w w' : List ℕ}
+    → Ready q from w → Passing q from level w t rest more w' → from < t → Ready q (t - 1) w'
+ready_before {q} {from} {level} {t} {rest} {more} {w} {w'} ready passing inside =
+    ready_gap q from level w ready t rest more w' passing (t - 1) (omega arith) inside
 
 pub overflow_add-t : goal.overflow_add-t
 overflow_add-t c = omega (arith, c.requires.ready.few)
@@ -16,49 +25,29 @@ overflow_sub-t c = omega (arith, c.loop-t-test.true)
 
 pub below-under-requires : goal.below-under-requires
 below-under-requires c =
-    let ready_at : Ready c.args.q (c.loop-t.t - 1) c.loop-t.w =
-    let at = c.loop-t in
-    ready_gap c.args.q c.args.from c.args.level c.args.w.now c.requires.ready
-    at.t at.rest at.more at.w at.invariant
-    (at.t - 1) (omega (arith, c.loop-t-test.true)) c.loop-t-test.true in
-    let r = ready_at in (r.room, omega (arith, r.order, r.few))
+    let r = ready_before c.requires.ready c.loop-t.invariant c.loop-t-test.true in
+    (r.room, omega (arith, r.order, r.few))
 
 pub gap-rest-requires : goal.gap-rest-requires
 gap-rest-requires c =
-    let ready_at : Ready c.args.q (c.loop-t.t - 1) c.loop-t.w =
-    let at = c.loop-t in
-    ready_gap c.args.q c.args.from c.args.level c.args.w.now c.requires.ready
-    at.t at.rest at.more at.w at.invariant
-    (at.t - 1) (omega (arith, c.loop-t-test.true)) c.loop-t-test.true in
+    let r = ready_before c.requires.ready c.loop-t.invariant c.loop-t-test.true in
     let pre = c.requires in
-    (ready_at, pre.least, omega (arith, pre.most))
+    (r, pre.least, omega (arith, pre.most))
 
 pub overflow_add-w : goal.overflow_add-w
 overflow_add-w c =
-    let ready_at : Ready c.args.q (c.loop-t.t - 1) c.loop-t.w =
-    let at = c.loop-t in
-    ready_gap c.args.q c.args.from c.args.level c.args.w.now c.requires.ready
-    at.t at.rest at.more at.w at.invariant
-    (at.t - 1) (omega (arith, c.loop-t-test.true)) c.loop-t-test.true in
-    let r = ready_at in omega (arith, r.order, r.few)
+    let r = ready_before c.requires.ready c.loop-t.invariant c.loop-t-test.true in
+    omega (arith, r.order, r.few)
 
 pub offset_bounds-w-t : goal.offset_bounds-w-t
 offset_bounds-w-t c =
-    let ready_at : Ready c.args.q (c.loop-t.t - 1) c.loop-t.w =
-    let at = c.loop-t in
-    ready_gap c.args.q c.args.from c.args.level c.args.w.now c.requires.ready
-    at.t at.rest at.more at.w at.invariant
-    (at.t - 1) (omega (arith, c.loop-t-test.true)) c.loop-t-test.true in
-    let r = ready_at in omega (arith, r.order, r.few)
+    let r = ready_before c.requires.ready c.loop-t.invariant c.loop-t-test.true in
+    omega (arith, r.order, r.few)
 
 pub bounds-w-t : goal.bounds-w-t
 bounds-w-t c =
-    let ready_at : Ready c.args.q (c.loop-t.t - 1) c.loop-t.w =
-    let at = c.loop-t in
-    ready_gap c.args.q c.args.from c.args.level c.args.w.now c.requires.ready
-    at.t at.rest at.more at.w at.invariant
-    (at.t - 1) (omega (arith, c.loop-t-test.true)) c.loop-t-test.true in
-    let r = ready_at in omega (arith, r.room, r.order, r.few)
+    let r = ready_before c.requires.ready c.loop-t.invariant c.loop-t-test.true in
+    omega (arith, r.room, r.order, r.few)
 
 pub loop-t-smaller : goal.loop-t-smaller
 loop-t-smaller c = omega (arith, c.loop-t-test.true)

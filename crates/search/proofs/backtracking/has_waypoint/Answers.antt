@@ -3,7 +3,6 @@ use Prim.Native.Nat.{◌<◌}
 use mathlib.Core.Path.{◌≡◌, sym, subst}
 use mathlib.Core.Bool.{true}
 use mathlib.Core.Logic.{◌↔◌}
-use borrow.Author.Rules.{rules}
 use Rattle.rows.specs.Rows.{Fine}
 use Rattle.scratch.specs.declared.Waypoint.{Waypoint}
 use Rattle.search.proofs.backtracking.has_waypoint.Goals as goal

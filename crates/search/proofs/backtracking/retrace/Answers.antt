@@ -4,9 +4,8 @@ use Prim.Native.Nat.{◌-◌, ◌<◌}
 use native.Mathlib.Omega.{arith}
 use mathlib.Core.Path.{sym, ◌∙◌}
 use mathlib.Core.Bool.{true≢false}
-use borrow.Author.Rules.{rules}
 use Rattle.search.proofs.Backward.{Written, steppable}
-use Rattle.search.proofs.Retracing.{Retracing, row_room, waypoint_there, written_back, before_end}
+use Rattle.search.proofs.Retracing.{row_room, waypoint_there, written_back, before_end}
 use Rattle.search.proofs.Retracing.{retracing_none, retracing_more}
 use Rattle.search.proofs.Retracing.{retraced_here, retraced_empty, retraced_none}
 use Rattle.search.proofs.backtracking.retrace.Goals as goal
@@ -33,29 +32,21 @@ step_back-row-requires c =
 
 pub has_waypoint-requires : goal.has_waypoint-requires
 has_waypoint-requires c =
-    let made :
     let a = c.args in
     let put = c.put_row in
-    Written a.site a.m (c.loop-t.t - 1) a.w.now put.new.w c.step_back-row.result =
-    let put = c.put_row in
-    written_back c.requires c.loop-t.invariant c.loop-t-test.true put.ensures
-    c.step_back-row.ensures in
-    let within :
-    c.loop-t.t - 1 < c.args.m =
+    let made : Written a.site a.m (c.loop-t.t - 1) a.w.now put.new.w c.step_back-row.result =
+    written_back c.requires c.loop-t.invariant c.loop-t-test.true put.ensures c.step_back-row.ensures in
+    let within : c.loop-t.t - 1 < c.args.m =
     before_end c.requires c.loop-t.invariant c.loop-t-test.true in
     waypoint_there c.requires made within
 
 pub returns-then-has_waypoint : goal.returns-then-has_waypoint
 returns-then-has_waypoint c =
-    let made :
     let a = c.args in
     let put = c.put_row in
-    Written a.site a.m (c.loop-t.t - 1) a.w.now put.new.w c.step_back-row.result =
-    let put = c.put_row in
-    written_back c.requires c.loop-t.invariant c.loop-t-test.true put.ensures
-    c.step_back-row.ensures in
-    let within :
-    c.loop-t.t - 1 < c.args.m =
+    let made : Written a.site a.m (c.loop-t.t - 1) a.w.now put.new.w c.step_back-row.result =
+    written_back c.requires c.loop-t.invariant c.loop-t-test.true put.ensures c.step_back-row.ensures in
+    let within : c.loop-t.t - 1 < c.args.m =
     before_end c.requires c.loop-t.invariant c.loop-t-test.true in
     retraced_here c.requires made within
     (c.has_waypoint.ensures.0 c.if-has_waypoint.true)
@@ -65,13 +56,10 @@ is_empty-requires c = tt
 
 pub returns-then-is_empty : goal.returns-then-is_empty
 returns-then-is_empty c =
-    let made :
     let a = c.args in
     let put = c.put_row in
-    Written a.site a.m (c.loop-t.t - 1) a.w.now put.new.w c.step_back-row.result =
-    let put = c.put_row in
-    written_back c.requires c.loop-t.invariant c.loop-t-test.true put.ensures
-    c.step_back-row.ensures in
+    let made : Written a.site a.m (c.loop-t.t - 1) a.w.now put.new.w c.step_back-row.result =
+    written_back c.requires c.loop-t.invariant c.loop-t-test.true put.ensures c.step_back-row.ensures in
     retraced_empty c.requires made
     (c.is_empty.ensures.0 c.if-is_empty.true)
 
@@ -81,13 +69,10 @@ loop-t-smaller c =
 
 pub loop-t-preserved : goal.loop-t-preserved
 loop-t-preserved c =
-    let made :
     let a = c.args in
     let put = c.put_row in
-    Written a.site a.m (c.loop-t.t - 1) a.w.now put.new.w c.step_back-row.result =
-    let put = c.put_row in
-    written_back c.requires c.loop-t.invariant c.loop-t-test.true put.ensures
-    c.step_back-row.ensures in
+    let made : Written a.site a.m (c.loop-t.t - 1) a.w.now put.new.w c.step_back-row.result =
+    written_back c.requires c.loop-t.invariant c.loop-t-test.true put.ensures c.step_back-row.ensures in
     let left = c.if-has_waypoint.false in
     retracing_more c.requires made
     (λ has. true≢false (sym (c.has_waypoint.ensures.1 has) ∙ left))

@@ -1,6 +1,5 @@
 -- `search::backtracking::step_back` meets its contract: what is read is the event.
 use mathlib.Core.Path.{sym, subst₂}
-use borrow.Author.Rules.{rules}
 use Rattle.model.specs.Cxl0.{Value, Event}
 use Rattle.rows.specs.Rows.{Closed}
 use Rattle.rows.specs.Sites.{copy_after}
@@ -18,11 +17,10 @@ row_step-requires c =
     let pre = c.requires in
     let rest = a.rest in
     let closed = subst₂ (λ (u : Value) (e : Event). Closed (copy_after x u e) rest) copy event pre.closed in
-    let r = (pre.owner, (rw e.ensures pre.known, closed)) in
     record {
-      one_to_six = r.0;
-      known = r.1.0;
-      closed = r.1.1;
+      one_to_six = pre.owner;
+      known = rw e.ensures pre.known;
+      closed = closed;
     }
 
 pub returns : goal.returns

@@ -1,9 +1,7 @@
 -- `explain` meets its contract. The loop's invariant: after t events, the walk stands at p.
-use Prim.Native.Nat.{◌-◌, ◌≤◌}
 use native.Mathlib.Numerals.{add-one}
 use native.Mathlib.Omega.{arith}
 use mathlib.Core.Path.{◌≡◌}
-use borrow.Author.Rules.{rules}
 use borrow.Author.Tests.{not-true, not-false}
 use Rattle.search.proofs.Explanations.{Explaining, explaining_none, explaining_since, explaining_end}
 use Rattle.search.proofs.Explanations.{explaining_continues, explaining_more, explaining_ends}
@@ -23,21 +21,17 @@ loop-t-init c =
 
 pub go_on-next-requires : goal.go_on-next-requires
 go_on-next-requires c =
-    let since : let a = c.args in
-    Explaining a.site a.count a.w.now c.loop-t.t c.loop-t.p c.loop-t.w =
     let a = c.args in
+    let since : Explaining a.site a.count a.w.now c.loop-t.t c.loop-t.p c.loop-t.w =
     explaining_since a.site a.count c.put_copy.ensures c.loop-t.invariant.1 in
-    let a = c.args in
     explaining_continues a.site a.events a.count a.w.now c.requires since
     c.loop-t-test.true
 
 pub returns-then-not-next : goal.returns-then-not-next
 returns-then-not-next c =
-    let since : let a = c.args in
-    Explaining a.site a.count a.w.now c.loop-t.t c.loop-t.p c.loop-t.w =
     let a = c.args in
+    let since : Explaining a.site a.count a.w.now c.loop-t.t c.loop-t.p c.loop-t.w =
     explaining_since a.site a.count c.put_copy.ensures c.loop-t.invariant.1 in
-    let a = c.args in
     explaining_ends a.site a.events a.count a.w.now c.requires since
     c.loop-t-test.true c.go_on-next.ensures (not-true _ c.if-not-next.true)
 
@@ -60,11 +54,9 @@ overflow_sub-result c = explaining_end c.loop-t.invariant.1
 
 pub returns : goal.returns
 returns c =
-    let since : let a = c.args in
-    Explaining a.site a.count a.w.now c.loop-t.t c.loop-t.p c.loop-t.w =
     let a = c.args in
+    let since : Explaining a.site a.count a.w.now c.loop-t.t c.loop-t.p c.loop-t.w =
     explaining_since a.site a.count c.put_copy.ensures c.loop-t.invariant.1 in
-    let a = c.args in
     let all : c.loop-t.t ≡ a.events = omega arith in
     rw all
     (explaining_all a.site a.events a.count a.w.now c.requires (rw all at since))

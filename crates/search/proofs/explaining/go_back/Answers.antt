@@ -1,6 +1,5 @@
 -- `search::explaining::go_back` meets its contract: the rows say from which waypoint the walk can go on.
 use native.Mathlib.Omega.{arith}
-use borrow.Author.Rules.{rules}
 use Rattle.search.proofs.Continuing.{retraceable, resumable, went_back, went_nowhere}
 use Rattle.search.proofs.explaining.go_back.Goals as goal
 

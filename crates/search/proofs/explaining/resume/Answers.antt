@@ -1,5 +1,4 @@
 -- `resume` meets its contract. The loop's invariant: after t events, the walk over the rows is under way.
-use Prim.Native.Nat.{◌-◌}
 use native.Mathlib.Omega.{arith}
 use mathlib.Core.Path.{◌≡◌, subst, sym}
 use Rattle.scratch.specs.declared.Waypoint.{Waypoint}
@@ -46,7 +45,7 @@ loop-t-preserved c =
     let a = c.args in
     resuming_more a.site a.from a.m a.w.now c.requires
     c.loop-t.t c.loop-t.p c.loop-t.w c.loop-t.invariant c.loop-t-test.true
-    c.put_waypoint.ensures (omega (arith, c.well-formed.1.0))
+    c.put_waypoint.ensures (omega arith)
     c.turn-p.result c.turn-p.new.w c.turn-p.ensures
 
 pub returns : goal.returns

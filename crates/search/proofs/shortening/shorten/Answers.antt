@@ -1,6 +1,6 @@
 -- `shorten` meets its contract. The loop's invariant: the walk is under way, and has come to `at` from the last known
 -- place without a silent step. Each turn either goes on from the same known place, or comes to a later one.
-use Prim.Native.Nat.{ℕ, suc, ◌+◌, ◌-◌, ◌*◌, ◌≤◌}
+use Prim.Native.Nat.{ℕ, ◌≤◌}
 use native.Mathlib.Omega.{arith}
 use mathlib.Core.Path.{◌≡◌, ap, ◌∙◌}
 use mathlib.Core.Logic.{◌⊎◌, inl, inr, ⊎_elim}
@@ -10,14 +10,12 @@ use borrow.Author.Tests.{not-true, not-false}
 use Rattle.model.specs.Meaning.{meant}
 use Rattle.model.proofs.Tests.{and_l, and_r, or_cases, true→T}
 use Rattle.rows.specs.Sites.{Known}
-use Rattle.scratch.specs.Layout.{MOST}
 use Rattle.scratch.specs.Words.{event_in}
 use Rattle.scratch.proofs.Events.{meant_read}
 use Rattle.walking.specs.Acting.{Acts}
 use Rattle.blocks.specs.Splitting.{kind_of}
-use Rattle.search.specs.Shortening.{Shortened}
 use Rattle.search.proofs.FreeStretches.{waypoint_at}
-use Rattle.search.proofs.Shortenings.{Walking, walking_none, walking_room, walking_known}
+use Rattle.search.proofs.Shortenings.{walking_none, walking_room, walking_known}
 use Rattle.search.proofs.Shortenings.{walking_more, walking_fixed, walking_blockable, walking_crossed}
 use Rattle.search.proofs.Shortenings.{walking_explainable, shortened_none, shortened_all}
 use Rattle.search.proofs.shortening.shorten.Goals as goal
@@ -38,19 +36,16 @@ pub act_at-made-requires : goal.act_at-made-requires
 act_at-made-requires c =
     let read_known : Known c.get_event-e.result =
     rw c.get_event-e.ensures (walking_known c.requires c.loop-at.invariant c.loop-at.at.gap c.loop-at-test.true) in
-    let r = (c.requires.explainable.placed.describes.machine, (read_known, c.loop-at.invariant.free.fits)) in
     record {
-      one_to_six = r.0;
-      known = r.1.0;
-      code_bound = r.1.1;
+      one_to_six = c.requires.explainable.placed.describes.machine;
+      known = read_known;
+      code_bound = c.loop-at.invariant.free.fits;
     }
 
 -- ---- the event is enabled
 pub kind-requires : goal.kind-requires
 kind-requires c =
-    let read_known : Known c.get_event-e.result =
-    rw c.get_event-e.ensures (walking_known c.requires c.loop-at.invariant c.loop-at.at.gap c.loop-at-test.true) in
-    read_known
+    rw c.get_event-e.ensures (walking_known c.requires c.loop-at.invariant c.loop-at.at.gap c.loop-at-test.true)
 
 pub overflow_add-next : goal.overflow_add-next
 overflow_add-next c =
@@ -105,15 +100,10 @@ pub explain-requires : goal.explain-requires
 explain-requires c =
     walking_explainable c.requires c.loop-at.invariant c.block-onto.ensures
 
-none : (c : goal.After-slice_known-then-not-onto-1) →
-    Shortened c.args.site c.args.events c.args.count c.args.w.now c.explain.result
-    c.explain.new.w
-none c =
+pub returns-then-not-onto : goal.returns-then-not-onto
+returns-then-not-onto c =
     shortened_none c.requires c.loop-at.invariant c.block-onto.ensures (not-true _ c.if-not-onto.true) c.loop-at-test.true
     c.explain.ensures
-
-pub returns-then-not-onto : goal.returns-then-not-onto
-returns-then-not-onto c = none c
 
 pub loop-at-smaller : goal.loop-at-smaller
 loop-at-smaller c =
