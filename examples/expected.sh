@@ -9,7 +9,7 @@ if [ "${1-}" = --second ]; then
 else
     program=../target/bin/verdict
     if [ ! -x "$program" ]; then
-        (cd .. && rt check verdict)
+        ../tools/build verdict
     fi
 fi
 for log in */*.log; do

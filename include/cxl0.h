@@ -1,4 +1,4 @@
-/* Malluvom's calls for C: a proved judge of CXL0 logs. Link with libcapi.a, which `rt staticlib capi` builds at
+/* Malluvom's calls for C: a proved judge of CXL0 logs. Link with libcapi.a, which `tools/build capi` builds at
  * target/staticlib/libcapi.a.
  *
  * A buffer is a pointer and a length; the length of `scratch` counts 64-bit numbers. A pointer may be NULL where its

@@ -20,7 +20,7 @@ case $named in
 esac
 if [ -z "$named" ] && [ ! -f "$library" ]; then
     command -v rt >/dev/null || fail "$library is not there, and neither is rt, which builds it"
-    (cd "$root" && rt staticlib capi) >&2
+    "$root/tools/build" capi >&2
 fi
 [ -f "$library" ] || fail "$library is not there"
 mkdir -p "$(dirname "$file")"

@@ -62,18 +62,20 @@ class Loading(Folder):
 class Building(Folder):
     def build(self, *arguments, **changed):
         """Runs build.sh of a repository in which nothing is built, with an `rt` that only copies the library."""
-        python, rt = self.folder / "repository" / "python", self.folder / "bin" / "rt"
-        for parent in python, rt.parent:
+        repository, rt = self.folder / "repository", self.folder / "bin" / "rt"
+        python, tools, capi = (repository / name for name in ("python", "tools", "crates/capi"))
+        for parent in python, tools, capi, rt.parent:
             parent.mkdir(parents=True, exist_ok=True)
         shutil.copy(HERE / "build.sh", python)
-        rt.write_text(f'#!/bin/sh -eu\necho "rt $*"\nmkdir -p target\ncp -r "{STATIC}" target/staticlib\n')
+        shutil.copy(ROOT / "tools" / "build", tools)
+        rt.write_text(f'#!/bin/sh -eu\necho "rt $*"\nmkdir -p out\ncp "{STATIC}/libcapi.a" out\n')
         rt.chmod(0o755)
         environment = {**os.environ, "PATH": f"{rt.parent}:{os.environ['PATH']}", **changed}
         return run(str(python / "build.sh"), *arguments, env=environment, cwd=self.folder)
 
     def test_without_the_library_rt_builds_it(self):
         built = self.build(MALLUVOM_LIB_DIR="")
-        self.assertEqual((built.returncode, built.stdout), (0, "rt staticlib capi\n"))
+        self.assertEqual((built.returncode, built.stdout), (0, "rt lib\n"))
         self.assertTrue((self.folder / "repository" / "target" / "python" / "libcxl0.so").is_file())
 
     def test_a_named_folder_needs_no_rt(self):

@@ -96,11 +96,11 @@ python_module() {
 }
 
 proved_library() {
-    [ -f "$library" ] || (cd .. && rt staticlib capi)
+    [ -f "$library" ] || ../tools/build capi
 }
 
 verdict_program() {
-    [ -x ../target/bin/verdict ] || (cd .. && rt check verdict)
+    [ -x ../target/bin/verdict ] || ../tools/build verdict
 }
 
 try "the proved library" proved_library

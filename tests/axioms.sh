@@ -1,57 +1,90 @@
 #!/usr/bin/env bash
 # No proof rests on an axiom. A check refuses the axioms of antt and of a crate; what it may assume is the contract of a
-# C function. The last line of a check, 'logic=proved ..', names after 'foreign=' those that the crate declares. That of
-# a program or a static library counts after 'axioms=' those that its proof reaches in any crate, and a line
-# 'axioms LIBRARY: ..' names them; the check of a plain library is silent about these. So each library that no other
-# crate uses is checked as a static library. The programs rest on read and write of the C library, and on nothing else.
+# C function that Rattle's own libraries call. `rt check --list-axioms` of a program or a static library lists these, and
+# marks as `reached` those that its proof reaches in any crate; the last line, 'logic=proved ..', counts them after
+# 'axioms=', and after 'foreign=' it names C functions that the crate declares. The check of a plain library is silent
+# about them, so each library that no other crate uses is checked as a static library. The libraries rest on none. The
+# programs rest on what std's input, output and memory rest on, and on nothing else; what none of them reaches is not
+# listed here.
 set -u
 cd "$(dirname "$0")/.." || exit 2
 fails=0
 
-# What the check whose output is read assumes, or that nothing is proved.
-assumed() {
-    awk '/^axioms / { sub(/^axioms /, ""); sub(/ \(.*/, ""); print }
-         /^logic=/ { verdict = $0 }
-         END {
-             if (verdict !~ /^logic=proved/) print "nothing proved"
-             n = split(verdict, word, " ")
-             for (i = 1; i <= n; i++) if (word[i] ~ /^(foreign|axioms)=/) print word[i]
-         }' | paste -sd ' '
+# What std says of reading, of writing, of the error where one fails, and of memory.
+of_std='libc::read libc::write libc::lseek os::c::rattle_errno os::c::__xpg_strerror_r'
+of_std="$of_std libc::heap::rattle_alloc libc::heap::rattle_realloc libc::heap::rattle_dealloc"
+
+# listed CRATE: what its check prints, a library's as that of a static one.
+listed() {
+    local as_static=(--crate-type staticlib)
+    if [ -f "crates/$1/src/main.rt" ] || grep -qE "^$1 staticlib:" crates.txt; then as_static=(); fi
+    (cd "crates/$1" && rt check --list-axioms ${as_static[@]+"${as_static[@]}"}) 2>&1
 }
 
-# expect NAME WANTED: what the check of NAME, whose output is read, assumes is WANTED.
-expect() {
-    local found
-    found=$(assumed)
-    if [ "$found" != "$2" ]; then
-        echo "$1 assumes '$found', where '$2' is expected"
-        fails=1
-    fi
+# assumed: what the check whose output is read assumes, a word for each; or that it proves nothing, or counts otherwise.
+assumed() {
+    awk '/^  [^ ]+ +reached$/ { print $1; names++ }
+         /^logic=/ { verdict = $0 }
+         END {
+             if (verdict !~ /^logic=proved /) print "nothing-proved"
+             n = split(verdict, word, " ")
+             for (i = 1; i <= n; i++) {
+                 if (word[i] ~ /^foreign=/) print word[i]
+                 if (word[i] ~ /^axioms=/) count = substr(word[i], 8)
+             }
+             if (count + 0 != names + 0) print "axioms=" count + 0 "-and-" names + 0 "-named"
+         }'
+}
+
+# beyond CRATE WORDS: those of the words, which its check assumes, that it may not. A program may assume what std says.
+beyond() {
+    local word may=''
+    if [ -f "crates/$1/src/main.rt" ]; then may=$of_std; fi
+    for word in $2; do
+        case " $may " in *" $word "*) ;; *) echo "$word" ;; esac
+    done
 }
 
 # Two crates that assume something: this script must see it.
 try_itself() {
-    local room
+    local room here=$PWD
     room=$(mktemp -d)
-    mkdir -p "$room"/crates/{calls,declares}/src
-    printf 'calls: io libc\ndeclares:\n' >"$room/crates.txt"
-    echo 'pub fn put(buf: &[u8]) -> bool { io::write_all(1, buf) }' >"$room/crates/calls/src/lib.rt"
-    echo 'extern "C" { fn c() -> u8; } pub fn call() -> u8 { c() }' >"$room/crates/declares/src/lib.rt"
-    expect "a library that writes" 'libc: libc::write axioms=1' < <(cd "$room" && rt staticlib calls 2>&1)
-    expect "a library with a C function" 'foreign=declares::c' < <(cd "$room" && rt check declares 2>&1)
+    mkdir -p "$room"/crates/{removes,declares}/src
+    printf 'removes:\ndeclares:\n' >"$room/crates.txt"
+    cat >"$room/crates/removes/src/main.rt" <<'END'
+fn main(rt: HostRuntime) -> std::io::Result<()> { std::fs::remove_file(&rt, "a") }
+END
+    echo 'unsafe extern "C" { safe fn c() -> u8; } pub fn call() -> u8 { c() }' >"$room/crates/declares/src/lib.rt"
+    cd "$room" || exit 2
+    if ! beyond removes "$(listed removes | assumed)" | grep -qx libc::unlink; then
+        echo "a program that removes a file: what it assumes was not seen"
+        fails=1
+    fi
+    if ! beyond declares "$(listed declares | assumed)" | grep -qE '^(foreign=.*|nothing-proved)$'; then
+        echo "a library with a C function: it was not seen"
+        fails=1
+    fi
+    cd "$here" || exit 2
     rm -rf "$room"
 }
 
 try_itself
-crates=$(sed -nE 's/^(\w+):.*/\1/p' crates.txt)
+crates=$(sed -nE 's/^(\w+)( [^:]*)?:.*/\1/p' crates.txt)
 [ -n "$crates" ] || fails=1
+reached=''
 for name in $crates; do
-    wanted='' shown=(cat "target/log/$name.say")
-    if [ -f "crates/$name/src/main.rt" ]; then
-        wanted='libc: libc::read, libc::write axioms=2'
-    elif ! sed -E 's/#.*//; s/^\w+://' crates.txt | grep -qw "$name"; then
-        shown=(rt staticlib "$name")
+    if sed -nE 's/^\w+[^:#]*:([^#]*).*/\1/p' crates.txt | grep -qw "$name"; then continue; fi
+    words=$(listed "$name" | assumed)
+    reached="$reached $words"
+    found=$(beyond "$name" "$words" | paste -sd ' ')
+    if [ -n "$found" ]; then
+        echo "$name assumes more than it may: $found"
+        fails=1
     fi
-    expect "$name" "$wanted" < <("${shown[@]}" 2>&1)
 done
+unreached=$(for word in $of_std; do grep -qxF "$word" <<<"${reached// /$'\n'}" || echo "$word"; done | paste -sd ' ')
+if [ -n "$unreached" ]; then
+    echo "no program reaches $unreached: take it out of of_std"
+    fails=1
+fi
 exit "$fails"

@@ -15,29 +15,29 @@ import antt  # noqa: E402
 INTERNAL = {
     "blocks", "events", "levels", "masks", "rows", "scratch", "search", "segments", "sorting", "walking", "weighing",
 }
-PUBLIC = re.compile(r'^ *pub (?:extern "C" )?fn ', flags=re.M)
+PUBLIC = re.compile(r'^ *pub (?:\w+ |"C" )*fn ', flags=re.M)
 
 
 def clauses(crate):
-    """Each public function of a crate, with where it stands and the words of its contract."""
+    """Each public function of a crate, with where it stands and the kinds of its clauses."""
     for path in sorted((ROOT / "crates" / crate).glob("src/**/*.rt")):
         text = path.read_text(encoding="utf-8")
         found = antt.contracts(text)
         if len(found) != len(PUBLIC.findall(antt.without_comments(text, "//"))):
             raise SystemExit(f"{path.relative_to(ROOT)}: not every public function was found")
         for name, lines in found.items():
-            yield f"{path.relative_to(ROOT)}: {name}", " ".join(lines).split()
+            yield f"{path.relative_to(ROOT)}: {name}", {kind for kind, _ in antt.clauses_by_kind(lines)}
 
 
 def main():
     libraries = sorted(path.parts[-3] for path in (ROOT / "crates").glob("*/src/lib.rt"))
     faults, functions, requiring = [], 0, set()
     for crate in libraries:
-        for where, words in clauses(crate):
+        for where, kinds in clauses(crate):
             functions += 1
-            if "ensures" not in words:
+            if "ensures" not in kinds:
                 faults.append(f"{where} says nothing of what it returns")
-            if "requires" in words:
+            if "requires" in kinds:
                 requiring.add(crate)
                 if crate not in INTERNAL:
                     faults.append(f"{where} has a requires")

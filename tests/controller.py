@@ -34,7 +34,7 @@ def text(*words):
 def library():
     folder = pathlib.Path(os.environ.get("MALLUVOM_LIB_DIR", ROOT / "target" / "staticlib"))
     if not (folder / "libcapi.a").is_file():
-        subprocess.run(["rt", "staticlib", "capi"], cwd=ROOT, check=True, stdout=subprocess.DEVNULL)
+        subprocess.run(["tools/build", "capi"], cwd=ROOT, check=True, stdout=subprocess.DEVNULL)
     return folder / "libcapi.a"
 
 

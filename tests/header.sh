@@ -5,7 +5,7 @@
 set -eu
 cd "$(dirname "$0")/.."
 library=${MALLUVOM_LIB_DIR:-target/staticlib}/libcapi.a
-[ -f "$library" ] || rt staticlib capi
+[ -f "$library" ] || tools/build capi
 work=$(mktemp -d)
 trap 'rm -rf "$work"' EXIT
 for compiler in "gcc -std=c99" "g++ -x c++ -std=c++11"; do

@@ -1,6 +1,6 @@
 #!/usr/bin/env python3
 """A refusal has one number and one name everywhere: each list of them is compared with the definition that the contracts name,
-`numberOf` of crates/fields/specs/Refusals.antt."""
+`number_of` of crates/fields/specs/Refusals.antt."""
 import pathlib
 import re
 import sys
@@ -22,7 +22,7 @@ def capitals(name):
 
 def main():
     table = [(int(number), name) for name, number in
-             found("crates/fields/specs/Refusals.antt", r"^numberOf (\w+) = (\d+)$")]
+             found("crates/fields/specs/Refusals.antt", r"^number_of (\w+) = (\d+)$")]
     names = [name for _, name in table]
     constants = [(str(number), capitals(name)) for number, name in table]
     plain = [(str(number), name) for number, name in table]

@@ -17,7 +17,7 @@ ROOT = pathlib.Path(__file__).resolve().parent.parent
 KNOWN = ROOT / "tests" / "repeats.txt"
 LEAST = 10
 SKIPPED = ("--", "//", "use ", "pub use ", "ghost use ", "mod ", "pub mod ")
-PASSED_ON = re.compile(r"(\(λ c( κs)?\. search needs\)|nothing)\)*")
+PASSED_ON = re.compile(r"(\(λ c( κs)?\. search rules\)|nothing)\)*|\w+ c( κs)? = search rules")
 
 
 def lines_of(path):
@@ -49,7 +49,8 @@ def runs(files):
 
 
 def main():
-    paths = sorted(p for kind in ("*.rt", "*.antt") for p in (ROOT / "crates").rglob(kind))
+    parts = [folder / part for folder in (ROOT / "crates").iterdir() for part in ("src", "specs", "proofs")]
+    paths = sorted(p for kind in ("*.rt", "*.antt") for part in parts for p in part.rglob(kind))
     files = {str(p.relative_to(ROOT / "crates")): list(lines_of(p)) for p in paths}
     found = {}
     for (one, i), (other, j), length in runs(files):

@@ -44,13 +44,14 @@ def faults(tree, texts):
             if kind == "proof":
                 yield f"{path}: {name} of {module} stands in a statement"
     for path in tree.texts:
-        for line in re.findall(r"^use \S*proofs\.\S*", tree.texts[path], flags=re.M) if "/specs/" in path else []:
-            yield f"{path}: a spec imports a proof: {line}"
+        for line in re.findall(r"^(?:pub )?use (\S+)", tree.texts[path], flags=re.M) if "/specs/" in path else []:
+            if tree.is_proof(line):
+                yield f"{path}: a spec imports a proof: {line}"
 
 
 def crate_order():
     lines = (ROOT / "crates.txt").read_text().split("\n")
-    return [line.split(":")[0] for line in lines if re.match(r"\w+:", line)]
+    return [found[1] for found in map(re.compile(r"(\w+)(?: [^:]*)?:").match, lines) if found]
 
 
 def definitions(tree, found):

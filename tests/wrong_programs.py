@@ -1,221 +1,187 @@
-"""The wrong programs, crates/*/must-fail/**/*.edit: the checker must refuse each, for the reason that the page has.
+"""The wrong programs, crates/*/must-fail/*.edit: the prover must refuse each, for the reason that the page has.
 
-`rt ci` tries the edits of crates/*/must-fail itself, each from nothing; its logs are judged here. Those below parts/
-are tried here by `rt dev`, in a copy of their crate over an incremental folder that the unchanged crate has filled: an
-edit then checks only what it changes and what rests on that. A refusal so comes from modules that were checked with
-the edit.
+`rt ci` tries the edits. .ci/run keeps what it prints in target/log/rt-ci: what each edit came to, and the first thing that
+the prover said against it. That is judged here, and nothing is tried again. Where no such log is younger than the crates,
+only the page is compared with the edits that there are.
 
-An edit passes if the first fact to fail is the one that docs/WRONG-PROGRAMS.md has in its column "refused by", and
-fails since it no longer holds. Where a tactic or a name of the proof no longer fits the code, nothing is shown of the
-contract.
+An edit passes if the first fact to fail is the one that docs/WRONG-PROGRAMS.md has in its column "refused by", and fails
+since it no longer holds. Where a tactic or a name of the proof no longer fits the code, nothing is shown of the contract.
 
-    python3 tests/wrong_programs.py [CRATE..]                 the edits of these crates, or of all
-    python3 tests/wrong_programs.py --from-nothing [CRATE..]  the same, each of the parts by a check of its whole crate
+    python3 tests/wrong_programs.py [LOG]          judges them, by this output of `rt ci` or `rt must-fail`
+    python3 tests/wrong_programs.py --write [LOG]  writes the facts of the log into the page; what the page says of a fact
+                                                   that has changed is to be read again
 
-RT_JOBS is the number of crates at a time. The last line is 'N passed, M failed'.
+The last line is 'N passed, M failed'.
 """
-import os
 import pathlib
 import re
-import shutil
-import subprocess
 import sys
-import tempfile
-import time
-from concurrent.futures import ThreadPoolExecutor
 
 ROOT = pathlib.Path(__file__).resolve().parent.parent
-TARGET = ROOT / "target"
 PAGE = ROOT / "docs" / "WRONG-PROGRAMS.md"
-FROM_NOTHING = "--from-nothing"
+LOG = ROOT / "target" / "log" / "rt-ci"
 
-# An error of the check: its file, the fact, and what is said of it, which goes on over the indented lines below.
-ERROR = re.compile(r"^\S*/(?:must-fail/\w+/\w+|crates/\w+)/((?:src|specs|proofs)/\S+?):\d+:\d+: error: (?:`([^`]+)`: )?"
-                   r"(.*(?:\n[ \t].*)*)", re.M)
-# Such an error only waits for a fact that failed elsewhere.
-WAITS = re.compile(r"`[^`]*` was not admitted")
-# A function without a proof file, and the facts that the checker did not find by itself.
-UNPROVED = re.compile(r"^fn \w+::(\S+): no proof: .*; `search` does not close (.*)$", re.M)
+# What `rt` says of an edit. Of a refusal the first 160 characters follow of the first thing that the prover said.
+TOLD = re.compile(r"^rt: must-fail (\w+/[\w.-]+)\.edit: (.*)$", re.M)
+REFUSED = "refused, as it must be: "
+# Where an error is, the fact, and what is said of it; and the same of a goal that no proof file answers, whose name may be
+# cut off.
+ERROR = re.compile(r"(?:\./)?((?:src|specs|proofs)/\S+?):(\d+):\d+: error: (?:`([^`]+)`: )?(.*)")
+OPEN = re.compile(r"note: (?:\./)?(src/\S+?):(\d+):\d+: it is not proved that .*?\(`([^`]+)(?:`|$)")
 # What is said of a fact that does not hold. Anything else is of a tactic or a name that no longer fits.
-FALSE = re.compile(r"(as printed|computed as far as they go), the two |expected type |`omega`: the goal does not follow "
-                   r"|`search`: no proof of |list the missing equation .*\n\s+`cc`: the equations do not join "
-                   r"|give a proof of that as the last argument|`[^`]*`\s+≟ |$")
-# So it is if the two that differ are places of the code: the proof then cites another place than it did.
-PLACE = re.compile(r"where one has `\S+\.Lts\.[A-Z][\w-]*`")
+FALSE = re.compile(r"as printed, the two |computed as far as they go, the two |expected type |`omega`: the goal does not follow "
+                   r"|`search`: no proof of |`search` did not prove |give a proof of that as the last argument|`[^`]*`\s+≟ ")
+# A row of the page: the edit, and its last cell.
+ROW = re.compile(r"(\| `(\w+/\w+)` \| )(.*)( \|)$")
+SAME = "the same"
 
 
-def edits_of(crate):
-    return sorted((ROOT / "crates" / crate / "must-fail").glob("**/*.edit"))
+def edits():
+    """The edits that there are: name to file."""
+    return {f"{path.relative_to(ROOT / 'crates').parts[0]}/{path.stem}": path
+            for path in sorted(ROOT.glob("crates/*/must-fail/**/*.edit"))}
 
 
-def name_of(edit):
-    return f"{edit.relative_to(ROOT / 'crates').parts[0]}/{edit.stem}"
-
-
-def log_of(edit):
-    return TARGET / "must-fail" / name_of(edit) / ".log"
+def facts_in(cell):
+    """The fact that a cell of the page names, in front of its first colon: where, and which."""
+    return re.findall(r"`([^`]+)`", cell.split(": ")[0])
 
 
 def page():
-    """What the page says of each edit, in front of the first colon of the last column: where, and which facts."""
+    """What the page says of each edit, once for each of its rows."""
     rows, words = {}, []
-    for name, cell in re.findall(r"\| `(\w+/\w+)` \| (.*) \|$", PAGE.read_text(), re.M):
-        if cell != "the same":
-            words = re.findall(r"`([^`]+)`", cell.split(": ")[0])
-        rows.setdefault(name, []).append(words)
+    for line in PAGE.read_text(encoding="utf-8").splitlines():
+        if row := ROW.search(line):
+            words = words if row[3] == SAME else facts_in(row[3])
+            rows.setdefault(row[2], []).append(words)
     return rows
 
 
-def apply(edit, crate):
-    """Edits a copy of a crate. Gives the texts that were there, or raises ValueError for what is no edit of it."""
-    old, file, was = None, None, {}
-    for line in edit.read_text().splitlines():
-        if line.startswith("file: "):
-            file = crate / line[len("file: "):]
-        elif line.startswith("old: "):
-            old = line[len("old: "):]
-        elif line.startswith("new:"):
-            if not old or file is None or not file.is_file():
-                raise ValueError("a 'new:' line without its file or 'old:' text")
-            text = file.read_text()
-            if text.count(old) != 1:
-                raise ValueError(f"an 'old:' text is in {file.relative_to(crate)} {text.count(old)} times")
-            was.setdefault(file, text)
-            file.write_text(text.replace(old, line[len("new:"):].removeprefix(" ")))
-            old = None
-    if not was:
-        raise ValueError("no 'old:' and 'new:' pair")
-    return was
+def module_of(file):
+    """The path of the module that a file of src/ is."""
+    path = re.sub(r"^src/|\.rt$|/mod\.rt$", "", file).replace("/", "::")
+    return "" if path in ("lib", "main") else f"{path}::"
 
 
-def room(crate, place):
-    """A repository in which only this crate is a copy; the others, and what is proved of them, are this one's."""
-    (place / "crates").mkdir()
-    shutil.copy(ROOT / "crates.txt", place)
-    for other in (ROOT / "crates").iterdir():
-        if other.name != crate:
-            (place / "crates" / other.name).symlink_to(other)
-    shutil.copytree(ROOT / "crates" / crate, place / "crates" / crate)
-    (place / "target").mkdir()
-    (place / "target" / "rlib").symlink_to(TARGET / "rlib")
-    shutil.copytree(TARGET / "stamp", place / "target" / "stamp")
+def function_at(crate, file, line):
+    """The function of a crate that a line of a file of src/ is of. A method's path is that of its type."""
+    lines = (ROOT / "crates" / crate / file).read_text(encoding="utf-8").split("\n")[:int(line)]
+    for n in reversed(range(len(lines))):
+        if found := re.match(r'( *)(?:pub(?:\(\w+\))? )?(?:\w+ |"C" )*fn (\w+)', lines[n]):
+            break
+    else:
+        return file
+    if not found[1]:
+        return module_of(file) + found[2]
+    types = [owner[1] for owner in map(re.compile(r"impl(?:<.*?>)? (?:.* for )?(\w+)").match, lines[:n]) if owner]
+    declares = re.compile(rf"^(?:pub )?(?:struct|enum) {types[-1]}\b", re.M)
+    for path in sorted((ROOT / "crates" / crate / "src").rglob("*.rt")):
+        if declares.search(path.read_text(encoding="utf-8")):
+            file = path.relative_to(ROOT / "crates" / crate).as_posix()
+    return f"{module_of(file)}{types[-1]}::{found[2]}"
 
 
-def check(crate, place, whole):
-    """What the check of the copy prints: of the whole of it, or of what has changed since the check before."""
-    if whole:
-        shutil.rmtree(place / "target" / "inc", ignore_errors=True)
-    run = subprocess.run(["rt", "dev", crate], cwd=place, text=True, stdout=subprocess.PIPE, stderr=subprocess.STDOUT)
-    return run.stdout
+def fact(crate, said):
+    """The fact that a refusal begins with: where, its name, and what is said of it. Where is a function of the crate, as
+    `writing::put_end`, or a file of laws, as `proofs/Expand.antt`."""
+    if found := OPEN.match(said):
+        return function_at(crate, found[1], found[2]), found[3], ""
+    if not (found := ERROR.match(said)):
+        return None
+    file, line, name, rest = found.groups()
+    if function := re.fullmatch(r"proofs/(.*)/(?:Answers|Invariants|Proof)\.antt", file):
+        # functions that call each other share a folder whose name begins with '+'
+        return function[1].replace("+", "").replace("/", "::"), name, rest
+    return (function_at(crate, file, line) if file.startswith("src/") else file), name, rest
 
 
-def facts(log):
-    """The facts that fail, in the order of the log: where, its name, and what is said of it.
-
-    Where is a function of the crate, as `writing::put_end`, or a file of laws, as `proofs/Expand.antt`.
-    """
-    found = []
-    for file, fact, said in ERROR.findall(log):
-        if not WAITS.match(said):
-            # functions that call each other share a folder whose name begins with '+'
-            function = re.fullmatch(r"proofs/(.*)/Proof\.antt", file)
-            found.append((function[1].replace("+", "").replace("/", "::") if function else file, fact, said))
-    for function, names in UNPROVED.findall(log):
-        found += [(function, fact, "") for fact in re.findall(r"`([^`]+)`", names)]
-    return found
-
-
-def fault(log, rows):
-    """Why an edit with this log does not pass, or None; rows are what the page says of it."""
-    if re.search(r"^logic=proved", log, re.M):
-        return "NOT REFUSED: the crate is still proved with this edit"
-    if not re.search(r"^logic=not-proved", log, re.M):
-        return "BAD EDIT: it did not reach the prover"
-    failing = facts(log)
-    if not failing or "has no `Need" in log:
-        return "SHOWS NOTHING: the proof file does not fit the code"
-    where, fact, said = failing[0]
-    if not FALSE.match(said) or PLACE.search(said):
-        return f"SHOWS NOTHING: {where}, {fact}: {said.splitlines()[0]}"
-    there = {name for place, name, _ in failing if place == where}
+def fault(name, said, rows):
+    """Why an edit of which this was said does not pass, or None; rows are what the page says of it."""
+    if not said.startswith(REFUSED):
+        return f"SHOWS NOTHING: {said}" if said.startswith("refused") else said
+    found = fact(name.split("/")[0], said.removeprefix(REFUSED))
+    if found is None or found[1] is None or found[2] and not FALSE.match(found[2]):
+        return f"SHOWS NOTHING: {said.removeprefix(REFUSED)}"
     for words in rows:
-        if words[:2] != [where, fact] or not there.issuperset(words[1:]):
-            return f"ANOTHER FACT: the page has {', '.join(words)}, and the first one to fail is {where}, {fact}"
+        if words != list(found[:2]):
+            return f"ANOTHER FACT: the page has {', '.join(words)}, and the first one to fail is {', '.join(found[:2])}"
     return None
 
 
-def verdict(edit, log, rows, took=""):
-    """Whether an edit passes, and the line that says so."""
-    why = fault(log, rows.get(name_of(edit), []))
-    if why:
-        return False, f"{name_of(edit)}: {why}"
-    where, fact, _ = facts(log)[0]
-    return True, f"{name_of(edit)}: refused, as it must be (first {where}, {fact}{took})"
-
-
-def is_tried(edit):
-    """Whether `rt ci` has tried the edit: its log is younger than all that the crate has."""
-    crate = edit.parent.parent
-    files = [path for part in ("src", "specs", "proofs") for path in (crate / part).rglob("*")] + [edit]
-    log = log_of(edit)
-    return (edit.parent.name != "parts" and log.is_file()
-            and log.stat().st_mtime > max(path.stat().st_mtime for path in files))
-
-
-def try_edit(edit, copy, place, rows, whole):
-    """Tries one edit in the copy of its crate and leaves the log where `rt ci` leaves its own."""
-    began = time.time()
-    try:
-        was = apply(edit, copy)
-    except ValueError as why:
-        return False, f"{name_of(edit)}: BAD EDIT: {why}"
-    log = check(copy.name, place, whole)
-    for file, text in was.items():
-        file.write_text(text)
-    log_of(edit).parent.mkdir(parents=True, exist_ok=True)
-    log_of(edit).write_text(log)
-    return verdict(edit, log, rows, f"; {time.time() - began:.0f} s")
-
-
-def try_crate(crate, rows, whole):
-    """The verdict of each edit of a crate."""
-    tried = {edit: is_tried(edit) for edit in edits_of(crate)}
-    lines = [verdict(edit, log_of(edit).read_text(), rows) for edit in tried if tried[edit]]
-    if all(tried.values()):
-        return lines
-    with tempfile.TemporaryDirectory() as folder:
-        place = pathlib.Path(folder)
-        room(crate, place)
-        log = "" if whole else check(crate, place, whole)
-        if "logic=not-proved" in log:
-            return lines + [(False, f"{crate}: not proved without an edit\n{log[-2000:]}")]
-        copy = place / "crates" / crate
-        return lines + [try_edit(edit, copy, place, rows, whole) for edit in tried if not tried[edit]]
+def judged(told, rows):
+    """Whether each edit passes, and the line that says so."""
+    for name in edits():
+        said = told.get(name, "not tried")
+        why = fault(name, said, rows.get(name, []))
+        if why:
+            yield False, f"{name}: {why}"
+        else:
+            where, which, _ = fact(name.split("/")[0], said.removeprefix(REFUSED))
+            yield True, f"{name}: refused, as it must be (first {where}, {which})"
 
 
 def strays(rows):
-    """The edits that the page does not have, and the names on the page that are no edit's."""
-    there = {name_of(edit) for edit in ROOT.glob("crates/*/must-fail/**/*.edit")}
-    return [(False, f"{name}: not on the page") for name in sorted(there - rows.keys())] + [
-        (False, f"{name}: on the page, and no edit") for name in sorted(rows.keys() - there)]
+    """The edits that the page does not have or that `rt ci` does not try, and the names on the page that are no edit's."""
+    there = edits()
+    yield from (f"{name}: not on the page" for name in there if name not in rows)
+    yield from (f"{name}: on the page, and no edit" for name in sorted(rows.keys() - there.keys()))
+    yield from (f"{name}: not right in must-fail/, so that rt ci does not try it"
+                for name, path in there.items() if path.parent.name != "must-fail")
+
+
+def kept_log(words):
+    """What `rt ci` printed: the named file, or the log of the gate if no file of the crates is younger; else None."""
+    if words:
+        return pathlib.Path(words[0]).read_text(encoding="utf-8")
+    files = [path for part in ("src", "specs", "proofs", "must-fail") for path in ROOT.glob(f"crates/*/{part}/**/*")]
+    newest = max(path.stat().st_mtime for path in files + [ROOT / "crates.txt"])
+    return LOG.read_text(encoding="utf-8") if LOG.is_file() and LOG.stat().st_mtime > newest else None
+
+
+def rewritten(line, told, above):
+    """A line of the page with the fact of the log, and what it now says and said in full; above is that of the row above."""
+    row = ROW.search(line)
+    if not row:
+        return line, above
+    name, cell = row[2], row[3]
+    now, was = above
+    full = was if cell == SAME else cell
+    said = told.get(name, "")
+    found = fact(name.split("/")[0], said.removeprefix(REFUSED)) if said.startswith(REFUSED) else None
+    if found is None or found[1] is None or facts_in(full) == list(found[:2]):
+        new = full
+    else:
+        where = f"[`{found[0]}`](../crates/{name.split('/')[0]}/{found[0]})" if found[0].startswith("proofs/") else f"`{found[0]}`"
+        new = ": ".join([f"{where}, `{found[1]}`", *full.split(": ")[1:]])
+    shown = SAME if cell == SAME and new == now else new
+    return f"{line[:row.start(3)]}{shown}{row[4]}", (new, full)
+
+
+def write(told):
+    lines, above = [], ("", "")
+    for line in PAGE.read_text(encoding="utf-8").split("\n"):
+        line, above = rewritten(line, told, above)
+        lines.append(line)
+    PAGE.write_text("\n".join(lines), encoding="utf-8")
 
 
 def main():
-    crates = [word for word in sys.argv[1:] if word != FROM_NOTHING]
-    crates = crates or [folder.name for folder in (ROOT / "crates").iterdir() if edits_of(folder.name)]
-    crates.sort(key=lambda crate: -len(edits_of(crate)))
-    rows, whole = page(), FROM_NOTHING in sys.argv
-    results = strays(rows)
-    if subprocess.run(["rt", "check", *crates], cwd=ROOT, stdout=subprocess.DEVNULL).returncode != 0:
-        results.append((False, "a crate is not proved: rt check says which"))
-        crates = []
-    for _, line in results:
-        print(f"FAIL {line}")
-    with ThreadPoolExecutor(int(os.environ.get("RT_JOBS") or os.cpu_count())) as pool:
-        for lines in pool.map(lambda crate: try_crate(crate, rows, whole), crates):
-            for good, line in lines:
-                print(("ok   " if good else "FAIL ") + line, flush=True)
-            results += lines
+    words = [word for word in sys.argv[1:] if word != "--write"]
+    log = kept_log(words)
+    told = dict(TOLD.findall(log or ""))
+    if "--write" in sys.argv:
+        if not told:
+            sys.exit("nothing is known of the edits: run .ci/run, or name a file with what rt ci or rt must-fail printed")
+        write(told)
+    rows = page()
+    results = [(False, line) for line in strays(rows)]
+    if log is None:
+        print("no log of rt ci that is younger than the crates: the page is only compared with the edits")
+        results += [(True, f"{name}: on the page") for name in edits() if name in rows]
+    else:
+        results += judged(told, rows)
+    for good, line in results:
+        print(("ok   " if good else "FAIL ") + line)
     passed = sum(good for good, _ in results)
     print(f"{passed} passed, {len(results) - passed} failed")
     return passed < len(results)

@@ -1,10 +1,14 @@
-"""The parts of a Rattle or antt file that a reader goes by, each by its name: definitions, laws, contracts, types."""
+"""The parts of a Rattle or antt file that a reader goes by, each by its name: definitions, laws, contracts, types.
+
+Files are read in today's spelling and in that of before the port (docs/PORT.md), which the landings' commits have."""
 import re
 import typing
 
 FUNCTION = r'^( *)(pub )?(?:extern "C" )?fn (\w+)(.*?)\{\}? *$'
+BODY = re.compile(r"\{\}? *$", flags=re.M)
 METHODS_OR_FUNCTION = re.compile(rf"^impl (\w+)|{FUNCTION}", flags=re.M | re.S)
-CLAUSE = re.compile(r"(?:requires|ensures)[^{]*\{(.*?)⌝ \}", flags=re.S)
+CLAUSE = re.compile(r"\b(requires|ensures)(?: \w+)? \{")
+BRACE = re.compile(r"[{}]")
 TYPE = re.compile(r"^(?:pub )?(?:struct|enum) (\w+)(.*?(?:;|^\})) *$", flags=re.M | re.S)
 DECLARATION = re.compile(r"(abbrev |unfoldable )?(pub )?(record |data )?(\S+)(.*)")
 SIGNATURE = re.compile(r"(?: \{[^}]*\})? :(?: |$)")
@@ -79,12 +83,17 @@ def statements(text):
 
 def functions(text):
     """The functions of a file: name (a method's with its type) to whether it is public, its signature and contract."""
-    found, methods_of = {}, None
-    for of, indent, public, name, rest in METHODS_OR_FUNCTION.findall(without_comments(text, "//")):
+    found, methods_of, at, text = {}, None, 0, without_comments(text, "//")
+    while match := METHODS_OR_FUNCTION.search(text, at):
+        of, indent, public, name, rest = match.groups()
+        at = match.end()
         if of:
             methods_of = of
-        else:
-            found[f"{methods_of}::{name}" if indent else name] = (bool(public), rest.split("\n"))
+            continue
+        while "⌜" not in rest and rest.count("{") != rest.count("}"):  # the line ends in a brace of a clause
+            start, at = match.start(5), BODY.search(text, at).end()
+            rest = re.sub(r"\{\}? *$", "", text[start:at])
+        found[f"{methods_of}::{name}" if indent else name] = (bool(public), rest.split("\n"))
     return found
 
 
@@ -93,9 +102,29 @@ def contracts(text):
     return {name: lines for name, (public, lines) in functions(text).items() if public}
 
 
+def closing(text, at):
+    """Where the brace is that closes the one before this place."""
+    depth = 1
+    for brace in BRACE.finditer(text, at):
+        depth += 1 if brace.group() == "{" else -1
+        if depth == 0:
+            return brace.start()
+    return None
+
+
+def clauses_by_kind(lines):
+    """The clauses of a contract, each by its kind, `requires` or `ensures`, and its text."""
+    text, at = "\n".join(lines), 0
+    while clause := CLAUSE.search(text, at):
+        at = closing(text, clause.end())
+        if at is None:
+            return  # before the port, where a line of a clause ends in a brace
+        yield clause.group(1), text[clause.end():at].strip()
+
+
 def clauses(lines):
     """What a contract asks and ensures, without the signature."""
-    return "\n".join(CLAUSE.findall("\n".join(lines)))
+    return "\n".join(text for _, text in clauses_by_kind(lines))
 
 
 def types(text):

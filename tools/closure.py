@@ -15,6 +15,18 @@ WORD = re.compile(r"\|\||\[\]|[^\s(){}\[\],;|⌜⌝]+")
 LABEL = re.compile(r"(?<=[{;])\s*\S+ =|^  pub \S+ :", flags=re.M)  # of a field: it may have a definition's name
 
 
+# What stands in a module's path for the variants of a type.
+VARIANTS = ("TheVariants", "the-variants")
+
+
+def spellings(word):
+    """The names that a word may have in an import: its own, or that of an operator, today's and that of before the port.
+
+    `a ← l` in a `do` block is a use of the operator `>>=`."""
+    operator = ">>=" if word == "←" else word
+    return word, f"◌{operator}◌", f"_{operator}_"
+
+
 def calls(path, text):
     """The public calls of a file: name to signature and contract."""
     crate = path.split("/")[1]
@@ -58,20 +70,26 @@ class Tree:
 
     def __init__(self, texts):
         self.texts, self.files, self.known = texts, {}, {}
+        self.crates = {path.split("/")[1] for path in texts}
 
     def file(self, path):
         if path not in self.files:
             self.files[path] = File(path, self.texts[path])
         return self.files[path]
 
+    def is_proof(self, module):
+        """Whether a module stands in a proofs/ folder of these crates. The toolchain has definitions in its own ones."""
+        crate = re.match(r"Rattle[·.](\w+)", module)
+        return ".proofs." in f"{module}." and crate is not None and crate.group(1) in self.crates
+
     def meant(self, module, name):
         """What a name of a module is, or None if the module's file neither defines it nor passes it on (`pub use`)."""
-        if ".proofs." in module:
+        if self.is_proof(module):
             return ("proof", module, name)
-        own = re.fullmatch(r"Rattle·(\w+)(?:·specs)?\.specs\.(.*)", module)
+        own = re.fullmatch(r"Rattle[·.](\w+)(?:·specs)?\.specs\.(.*)", module)
         crate, rest = own.groups() if own else ("", "")
         if rest.startswith("declared."):
-            return ("type", crate, [part for part in rest.split(".") if part != "the-variants"][-1])
+            return ("type", crate, [part for part in rest.split(".") if part not in VARIANTS][-1])
         path = f"crates/{crate}/specs/{rest.replace('.', '/')}.antt"
         if path not in self.texts:
             return ("library", module, name)
@@ -85,12 +103,11 @@ class Tree:
         file, found = self.file(path), set()
         for word in WORD.findall(LABEL.sub("", text)):
             head, _, rest = word.partition(".")
-            # `a ← l` in a `do` block is a use of `_>>=_`
-            operator = "_>>=_" if word == "←" else f"_{word}_"
-            if word in file.of or operator in file.of:
-                found.add(("definition", path, file.of.get(word) or file.of[operator]))
-            elif word in file.names or operator in file.names:
-                found.add(self.meant(*(file.names.get(word) or file.names[operator])))
+            spelled = spellings(word)
+            if here := [file.of[one] for one in spelled if one in file.of]:
+                found.add(("definition", path, here[0]))
+            elif there := [file.names[one] for one in spelled if one in file.names]:
+                found.add(self.meant(*there[0]))
             elif rest and head in file.modules:
                 found.add(self.meant(file.modules[head], rest.split(".")[-1]))
             elif rest and head in file.names:
@@ -119,5 +136,6 @@ class Tree:
 
 def working_tree(root):
     """The crates as they stand in the folder of the project."""
-    paths = [path for path in (root / "crates").rglob("*") if path.suffix in (".rt", ".antt", ".edit")]
+    parts = [folder / part for folder in (root / "crates").iterdir() for part in ("src", "specs", "proofs", "must-fail")]
+    paths = [path for part in parts for path in part.rglob("*") if path.suffix in (".rt", ".antt", ".edit")]
     return Tree({path.relative_to(root).as_posix(): path.read_text(encoding="utf-8") for path in paths})

@@ -1,4 +1,4 @@
-//! Finds libcapi.a, which `rt staticlib capi` writes to target/staticlib of the repository. MALLUVOM_LIB_DIR names
+//! Finds libcapi.a, which `tools/build capi` writes to target/staticlib of the repository. MALLUVOM_LIB_DIR names
 //! another folder.
 
 use std::path::PathBuf;
@@ -19,7 +19,7 @@ fn main() {
     let library = folder.join("libcapi.a");
     println!("cargo:rerun-if-changed={}", library.display());
     if !library.is_file() {
-        eprintln!("{} is not there: build it by `rt staticlib capi` in the repository's root,", library.display());
+        eprintln!("{} is not there: build it by `tools/build capi` in the repository's root,", library.display());
         eprintln!("or name the folder of another libcapi.a in MALLUVOM_LIB_DIR");
         process::exit(1);
     }

@@ -9,7 +9,6 @@ use lib.Dec.{T}
 use Rattle.model.specs.Cxl0.{Location, Topology, initial}
 use Rattle.model.specs.Cxl0.{Event, Crash, SetCrash}
 use Rattle.model.specs.Cxl0.{event, silent}
-use Rattle.model.specs.Sharers.{has}
 use Rattle.model.specs.OneLocation.{Local, location_of, site_of, clears_site, event_at, silent_at, concerns, enabled_at}
 use Rattle.model.specs.OneLocation.{crashed_at, effect, possible_at, next_at}
 use Rattle.model.specs.OneLocation.{start_at, HasRunAt, Silently, still, step}

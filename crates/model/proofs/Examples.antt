@@ -1,11 +1,11 @@
 -- Small logs with their explanations, computed from the definition alone. Each tells a false definition from it.
 use Prim.Native.Nat.{ℕ}
 use mathlib.Core.Path.{◌≡◌, refl}
-use mathlib.Core.List.{List, [], ◌∷◌, flat_map}
-use mathlib.Core.Option.{Option, none, some}
+use mathlib.Core.List.{[], ◌∷◌, flat_map}
+use mathlib.Core.Option.{none, some}
 use Rattle.model.specs.Cxl0.{is_machine, is_location, owner, initial, keeps, is_persistent, start, some_machine}
 use Rattle.model.specs.Cxl0.{every_machine, cached, crashes, clears, named, enabled, next, possible, runs}
-use Rattle.model.specs.Cxl0.{Topology, Event, LStore, Load, LFlush, RFlush, Crash, SetCrash}
+use Rattle.model.specs.Cxl0.{Topology, LStore, Load, LFlush, RFlush, Crash, SetCrash}
 use Rattle.model.specs.Cxl0.{count, is_store, is_load}
 use Rattle.model.specs.Sharers.{has}
 use Rattle.model.specs.Schedule.{Step, silent_of, due, later, steps, weave_from, weave, in_order}

@@ -1,6 +1,6 @@
 -- The shortest explanation (request W-204): a schedule with the fewest silent steps of any run of the events, and among
 -- these the one whose numbers are smallest at the first difference.
-use Rattle.std.specs.Prelude.{ℕ, ◌≤◌, ◌<◌, ◌≡◌, ◌⊎◌, List, [], ◌∷◌, T, length}
+use Rattle.std.specs.Prelude.{◌≤◌, ◌<◌, ◌≡◌, ◌⊎◌, List, [], ◌∷◌, T, length}
 use Rattle.model.specs.Cxl0.{Topology, Event, Action, Run, events, silents}
 use Rattle.model.specs.Schedule.{Step, weave, schedule, in_order}
 

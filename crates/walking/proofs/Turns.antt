@@ -5,7 +5,7 @@ use mathlib.Core.Path.{◌≡◌, ap, ◌∙◌}
 use mathlib.Core.Bool.{not}
 use mathlib.Core.List.{List, [], ◌∷◌, map}
 use lib.Dec.{T}
-use Rattle.model.specs.Cxl0.{Value, Topology, owner, event}
+use Rattle.model.specs.Cxl0.{Value, Topology, event}
 use Rattle.model.specs.Cxl0.{Event}
 use Rattle.model.specs.Schedule.{steps}
 use Rattle.model.specs.OneLocation.{event_at, concerns, possible_at, next_at, HasRunAt}

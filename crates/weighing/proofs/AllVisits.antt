@@ -6,7 +6,7 @@ use mathlib.Core.List.{List}
 use lib.Dec.{T}
 use lib.ListN.{drop}
 use lib.Seq.{slice_empty}
-use Rattle.model.specs.Cxl0.{Topology, is_location, Event}
+use Rattle.model.specs.Cxl0.{is_location, Event}
 use Rattle.model.specs.Meaning.{topology_of}
 use Rattle.model.specs.declared.Topology as topology
 use Rattle.scratch.specs.Layout.{STEPS, OnlyIn, LOG}

@@ -4,7 +4,7 @@ use native.Mathlib.Nat.{le_trans}
 use mathlib.Core.Path.{◌≡◌, sym, ap}
 use lib.Dec.{T, leb, ltb, leb→le, lt→ltb}
 use lib.ListN.{length}
-use Rattle.model.specs.Cxl0.{Machine, Location, is_machine, is_location, owner}
+use Rattle.model.specs.Cxl0.{Machine, Location, is_machine, is_location}
 use Rattle.model.specs.OneLocation
 use Rattle.model.specs.OneLocation.{site_of}
 use Rattle.model.specs.Meaning.{topology_of, within_limits}

@@ -1,6 +1,16 @@
--- The count that `record` gives fits its bits.
+-- `cxl0_record` packs what `record` answers.
+use mathlib.Core.Path.{ap, ◌∙◌}
+use borrow.Author.Rules.{rules}
+use Rattle.capi.specs.Packing.{pack_recorded}
 use Rattle.capi.proofs.Sizes.{recorded_fits}
 use Rattle.capi.proofs.cxl0_record.Goals as goal
 
 pub pack_recorded-requires : goal.pack_recorded-requires
 pack_recorded-requires c = recorded_fits _ _ _ _ _ c.record.ensures.result_value
+
+pub returns : goal.returns
+returns c =
+    record {
+      value = c.pack_recorded.ensures ∙ ap pack_recorded c.record.ensures.result_value;
+      buf_after = c.record.ensures.buf_after;
+    }

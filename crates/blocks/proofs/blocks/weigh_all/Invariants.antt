@@ -1,0 +1,11 @@
+-- `weigh_all` meets its contract.
+use native.Mathlib.Omega.{arith}
+use borrow.Author.Rules.{rules}
+use Rattle.blocks.proofs.Pricing.{Pricing, pricing_none, weighable, pricing_more, priced}
+use Rattle.blocks.proofs.blocks.weigh_all.Given as goal
+
+abbrev pub invariant-loop-l : goal.invariant-loop-l
+invariant-loop-l l = Pricing l.site l.b l.initial.w l.w l.l l.least
+
+abbrev pub decreases-loop-l : goal.decreases-loop-l
+decreases-loop-l l = l.l

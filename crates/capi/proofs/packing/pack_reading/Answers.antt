@@ -1,0 +1,6 @@
+-- `pack_reading` is `pack_summary`.
+use borrow.Author.Rules.{rules}
+use Rattle.capi.proofs.packing.pack_reading.Goals as goal
+
+pub returns-in-Accepted : goal.returns-in-Accepted
+returns-in-Accepted c = rw c.in-Accepted.is c.summary.ensures

@@ -1,0 +1,28 @@
+-- `build` meets its contract. The loop's invariant: the passes below the level are made, and none at r or above.
+use native.Mathlib.Omega.{arith}
+use Rattle.levels.proofs.Counting.{reached_none, passable, reached_more, built}
+use Rattle.levels.proofs.build.Goals as goal
+
+pub loop-level-init : goal.loop-level-init
+loop-level-init c =
+    let a = c.args in
+    (reached_none a.q a.from a.w.now, λ h. omega arith)
+
+pub pass-requires : goal.pass-requires
+pass-requires c =
+    passable c.requires.0 c.loop-level.invariant.0 (omega arith)
+
+pub overflow_add-level : goal.overflow_add-level
+overflow_add-level c = omega arith
+
+pub loop-level-smaller : goal.loop-level-smaller
+loop-level-smaller c = omega arith
+
+pub loop-level-preserved : goal.loop-level-preserved
+loop-level-preserved c =
+    let ready = c.requires.0 in
+    (reached_more ready c.loop-level.invariant.0 c.pass.ensures, λ h. omega (arith, c.loop-level-test.true))
+
+pub returns : goal.returns
+returns c =
+    built c.loop-level.invariant.0 c.args.r c.loop-level-test.false c.loop-level.invariant.1

@@ -1,0 +1,26 @@
+-- `rows::crash_row` meets its contract, where memory is cleared and where it is kept.
+use borrow.Author.Rules.{rules}
+use native.Mathlib.Nat.{lt_of_le_of_lt}
+use mathlib.Core.Logic.Iff
+use Rattle.model.specs.Sharers.{remove}
+use Rattle.model.proofs.Sharers.{remove_le}
+use Rattle.rows.proofs.FineRows.{row_of, any_of}
+use Rattle.rows.proofs.crash_row.Goals as goal
+
+pub returns-then-cleared : goal.returns-then-cleared
+returns-then-cleared c =
+    let i = c.args.i.0 in
+    let lost = c.losing in
+    let codes = c.codes in
+    rw c.if-cleared.true
+    (any_of lost.result _ c.any_row.result
+    (λ d h. Iff.trans (lost.ensures d h) (codes.ensures (remove i d) (lt_of_le_of_lt (remove_le i d) h)))
+    c.any_row.ensures)
+
+pub returns : goal.returns
+returns c =
+    let rest = c.args.rest in
+    let any = c.losing-2 in
+    let one = c.losing-3 in
+    rw c.if-cleared.false
+    (row_of any.result one.result _ _ any.ensures one.ensures rest.value)

@@ -1,0 +1,8 @@
+-- `rows::fine` meets its contract.
+use borrow.Author.Rules.{rules}
+use mathlib.Core.Logic.Iff
+use Rattle.rows.proofs.fine.Goals as goal
+
+pub returns : goal.returns
+returns c =
+    Iff.trans c.contains.ensures (c.codes.ensures c.args.c c.requires)

@@ -1,0 +1,98 @@
+-- `read_schedule` goes from step to step: what the file comes to is what remains after the steps so far.
+use Prim.Native.Nat.{ℕ, ◌≤◌, ◌-◌}
+use native.Mathlib.Numerals.{add-one}
+use native.Mathlib.Omega.{arith}
+use mathlib.Core.Path.{◌≡◌, sym, ap, ◌∙◌}
+use mathlib.Core.Bool.{true}
+use mathlib.Core.List.{List}
+use mathlib.Core.Option.{none, some}
+use lib.ListN.{length}
+use borrow.Author.Rules.{rules}
+use borrow.Author.Tests.{not-true, not-false}
+use Rattle.model.specs.Cxl0.{Topology}
+use Rattle.model.specs.Meaning.{topology_of}
+use Rattle.fields.proofs.Put.{part_drop}
+use Rattle.schedules.specs.Answers.{step_of, step_at_of}
+use Rattle.schedules.specs.Schedules.{step_at, says_allowed, read_schedule, counted}
+use Rattle.schedules.proofs.Fields.{long_header}
+use Rattle.schedules.proofs.Cursor.{within}
+use Rattle.schedules.proofs.Remaining.{remaining, not_allowed, at_first}
+use Rattle.schedules.proofs.Remaining.{follows, misfits, ends, breaks, too_many}
+use Rattle.schedules.proofs.read_schedule.Goals as goal
+
+pub returns-then-not-says_allowed : goal.returns-then-not-says_allowed
+returns-then-not-says_allowed c =
+    let a = c.args in
+    sym (not_allowed (topology_of a.t) a.events a.file.now
+    (sym c.says_allowed.ensures ∙ not-true _ c.if-not-says_allowed.true-raw))
+
+-- The file says allowed.
+says : (c : goal.Else-not-says_allowed) → says_allowed c.args.file.now ≡ true
+says c = sym c.says_allowed.ensures ∙ not-false _ c.if-not-says_allowed.false-raw
+
+pub loop-steps-init : goal.loop-steps-init
+loop-steps-init c =
+    let a = c.args in
+    let first = at_first (topology_of a.t) a.events a.file.now (says c) in
+    (long_header a.file.now (says c), omega arith, first)
+
+pub returns-then-not-may_follow : goal.returns-then-not-may_follow
+returns-then-not-may_follow c =
+    let step : step_at (c.args.file.now) c.loop-steps.at
+    ≡ some (step_of c.in-Found.p, c.in-Found.next) =
+    sym c.step_at.ensures ∙ ap step_at_of c.in-Found.is in
+    let l = c.loop-steps in
+    let may = sym c.may_follow.ensures ∙ not-true _ c.if-not-may_follow.true-raw in
+    sym (l.invariant.2
+    ∙ misfits ((topology_of c.args.t)) (c.args.events) (c.args.file.now) l.at l.least l.steps step may)
+
+pub overflow_add-steps : goal.overflow_add-steps
+overflow_add-steps c = omega arith
+
+pub loop-steps-smaller : goal.loop-steps-smaller
+loop-steps-smaller c = omega arith
+
+pub loop-steps-preserved : goal.loop-steps-preserved
+loop-steps-preserved c =
+    let step : step_at (c.args.file.now) c.loop-steps.at
+    ≡ some (step_of c.in-Found.p, c.in-Found.next) =
+    sym c.step_at.ensures ∙ ap step_at_of c.in-Found.is in
+    let l = c.loop-steps in
+    let may = sym c.may_follow.ensures ∙ not-false _ c.if-not-may_follow.false-raw in
+    let next = follows ((topology_of c.args.t)) (c.args.events) (c.args.file.now) l.at l.least l.steps step may in
+    (within (c.args.file.now) l.at step, omega arith, l.invariant.2 ∙ rw add-one next)
+
+pub slice_bounds-is_end-count : goal.slice_bounds-is_end-count
+slice_bounds-is_end-count c = omega arith
+
+pub slice_bounds-is_end-start : goal.slice_bounds-is_end-start
+slice_bounds-is_end-start c = omega arith
+
+pub slice_bounds-is_end-end : goal.slice_bounds-is_end-end
+slice_bounds-is_end-end c = omega arith
+
+pub returns-then-not-is_end : goal.returns-then-not-is_end
+returns-then-not-is_end c =
+    let nothing : step_at (c.args.file.now) c.loop-steps.at ≡ none =
+    sym c.step_at.ensures ∙ ap step_at_of c.in-Absent.is in
+    let l = c.loop-steps in
+    let more = rw part_drop at (sym c.is_end.ensures ∙ not-true _ c.if-not-is_end.true-raw) in
+    sym (l.invariant.2
+    ∙ breaks ((topology_of c.args.t)) (c.args.events) (c.args.file.now) l.at l.least l.steps nothing more)
+
+pub returns-in-Absent : goal.returns-in-Absent
+returns-in-Absent c =
+    let nothing : step_at (c.args.file.now) c.loop-steps.at ≡ none =
+    sym c.step_at.ensures ∙ ap step_at_of c.in-Absent.is in
+    let l = c.loop-steps in
+    let end = rw part_drop at (sym c.is_end.ensures ∙ not-false _ c.if-not-is_end.false-raw) in
+    let few = c.loop-steps-test.true in
+    sym (l.invariant.2
+    ∙ ends ((topology_of c.args.t)) (c.args.events) (c.args.file.now) l.at l.least l.steps nothing end few)
+
+pub returns : goal.returns
+returns c =
+    let l = c.loop-steps in
+    let many = c.loop-steps-test.false in
+    sym (l.invariant.2
+    ∙ too_many ((topology_of c.args.t)) (c.args.events) (c.args.file.now) l.at l.least l.steps many)

@@ -1,0 +1,97 @@
+-- `search::backtracking::retrace` meets its contract. The loop's invariant: the pass has come to row t, and that
+-- has not the waypoint before event t.
+use Prim.Native.Nat.{◌-◌, ◌<◌}
+use native.Mathlib.Omega.{arith}
+use mathlib.Core.Path.{sym, ◌∙◌}
+use mathlib.Core.Bool.{true≢false}
+use borrow.Author.Rules.{rules}
+use Rattle.search.proofs.Backward.{Written, steppable}
+use Rattle.search.proofs.Retracing.{Retracing, row_room, waypoint_there, written_back, before_end}
+use Rattle.search.proofs.Retracing.{retracing_none, retracing_more}
+use Rattle.search.proofs.Retracing.{retraced_here, retraced_empty, retraced_none}
+use Rattle.search.proofs.backtracking.retrace.Goals as goal
+
+pub last_row-row-requires : goal.last_row-row-requires
+last_row-row-requires c = tt
+
+pub loop-t-init : goal.loop-t-init
+loop-t-init c =
+    let a = c.args in
+    rw c.last_row-row.ensures (retracing_none a.site a.m a.w.now)
+
+pub put_row-requires : goal.put_row-requires
+put_row-requires c =
+    row_room c.requires c.loop-t.invariant.written
+
+pub overflow_sub-t : goal.overflow_sub-t
+overflow_sub-t c = omega arith
+
+pub step_back-row-requires : goal.step_back-row-requires
+step_back-row-requires c =
+    let put = c.put_row in
+    steppable c.requires.ready c.loop-t.invariant.written put.ensures (omega arith)
+
+pub has_waypoint-requires : goal.has_waypoint-requires
+has_waypoint-requires c =
+    let made :
+    let a = c.args in
+    let put = c.put_row in
+    Written a.site a.m (c.loop-t.t - 1) a.w.now put.new.w c.step_back-row.result =
+    let put = c.put_row in
+    written_back c.requires c.loop-t.invariant c.loop-t-test.true put.ensures
+    c.step_back-row.ensures in
+    let within :
+    c.loop-t.t - 1 < c.args.m =
+    before_end c.requires c.loop-t.invariant c.loop-t-test.true in
+    waypoint_there c.requires made within
+
+pub returns-then-has_waypoint : goal.returns-then-has_waypoint
+returns-then-has_waypoint c =
+    let made :
+    let a = c.args in
+    let put = c.put_row in
+    Written a.site a.m (c.loop-t.t - 1) a.w.now put.new.w c.step_back-row.result =
+    let put = c.put_row in
+    written_back c.requires c.loop-t.invariant c.loop-t-test.true put.ensures
+    c.step_back-row.ensures in
+    let within :
+    c.loop-t.t - 1 < c.args.m =
+    before_end c.requires c.loop-t.invariant c.loop-t-test.true in
+    retraced_here c.requires made within
+    (c.has_waypoint.ensures.0 c.if-has_waypoint.true)
+
+pub is_empty-requires : goal.is_empty-requires
+is_empty-requires c = tt
+
+pub returns-then-is_empty : goal.returns-then-is_empty
+returns-then-is_empty c =
+    let made :
+    let a = c.args in
+    let put = c.put_row in
+    Written a.site a.m (c.loop-t.t - 1) a.w.now put.new.w c.step_back-row.result =
+    let put = c.put_row in
+    written_back c.requires c.loop-t.invariant c.loop-t-test.true put.ensures
+    c.step_back-row.ensures in
+    retraced_empty c.requires made
+    (c.is_empty.ensures.0 c.if-is_empty.true)
+
+pub loop-t-smaller : goal.loop-t-smaller
+loop-t-smaller c =
+    omega (arith, c.loop-t-test.true)
+
+pub loop-t-preserved : goal.loop-t-preserved
+loop-t-preserved c =
+    let made :
+    let a = c.args in
+    let put = c.put_row in
+    Written a.site a.m (c.loop-t.t - 1) a.w.now put.new.w c.step_back-row.result =
+    let put = c.put_row in
+    written_back c.requires c.loop-t.invariant c.loop-t-test.true put.ensures
+    c.step_back-row.ensures in
+    let left = c.if-has_waypoint.false in
+    retracing_more c.requires made
+    (λ has. true≢false (sym (c.has_waypoint.ensures.1 has) ∙ left))
+
+pub returns : goal.returns
+returns c =
+    retraced_none c.requires c.loop-t.invariant c.loop-t-test.false

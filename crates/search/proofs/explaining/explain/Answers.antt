@@ -1,0 +1,70 @@
+-- `explain` meets its contract. The loop's invariant: after t events, the walk stands at p.
+use Prim.Native.Nat.{◌-◌, ◌≤◌}
+use native.Mathlib.Numerals.{add-one}
+use native.Mathlib.Omega.{arith}
+use mathlib.Core.Path.{◌≡◌}
+use borrow.Author.Rules.{rules}
+use borrow.Author.Tests.{not-true, not-false}
+use Rattle.search.proofs.Explanations.{Explaining, explaining_none, explaining_since, explaining_end}
+use Rattle.search.proofs.Explanations.{explaining_continues, explaining_more, explaining_ends}
+use Rattle.search.proofs.Explanations.{explaining_all}
+use Rattle.search.proofs.explaining.explain.Goals as goal
+
+pub put_copy-requires : goal.put_copy-requires
+put_copy-requires c = (c.requires.room, omega arith)
+
+pub overflow_add-p : goal.overflow_add-p
+overflow_add-p c = omega (arith, c.requires.short)
+
+pub loop-t-init : goal.loop-t-init
+loop-t-init c =
+    let a = c.args in
+    (omega arith, explaining_none a.site a.count c.put_copy.ensures)
+
+pub go_on-next-requires : goal.go_on-next-requires
+go_on-next-requires c =
+    let since : let a = c.args in
+    Explaining a.site a.count a.w.now c.loop-t.t c.loop-t.p c.loop-t.w =
+    let a = c.args in
+    explaining_since a.site a.count c.put_copy.ensures c.loop-t.invariant.1 in
+    let a = c.args in
+    explaining_continues a.site a.events a.count a.w.now c.requires since
+    c.loop-t-test.true
+
+pub returns-then-not-next : goal.returns-then-not-next
+returns-then-not-next c =
+    let since : let a = c.args in
+    Explaining a.site a.count a.w.now c.loop-t.t c.loop-t.p c.loop-t.w =
+    let a = c.args in
+    explaining_since a.site a.count c.put_copy.ensures c.loop-t.invariant.1 in
+    let a = c.args in
+    explaining_ends a.site a.events a.count a.w.now c.requires since
+    c.loop-t-test.true c.go_on-next.ensures (not-true _ c.if-not-next.true)
+
+pub overflow_add-t : goal.overflow_add-t
+overflow_add-t c = omega arith
+
+pub loop-t-smaller : goal.loop-t-smaller
+loop-t-smaller c = omega arith
+
+pub loop-t-preserved : goal.loop-t-preserved
+loop-t-preserved c = (
+  omega arith,
+  rw (add-one c.loop-t.t)
+      (explaining_more c.loop-t.invariant.1 c.requires.short c.go_on-next.ensures
+      (not-false _ c.if-not-next.false)),
+)
+
+pub overflow_sub-result : goal.overflow_sub-result
+overflow_sub-result c = explaining_end c.loop-t.invariant.1
+
+pub returns : goal.returns
+returns c =
+    let since : let a = c.args in
+    Explaining a.site a.count a.w.now c.loop-t.t c.loop-t.p c.loop-t.w =
+    let a = c.args in
+    explaining_since a.site a.count c.put_copy.ensures c.loop-t.invariant.1 in
+    let a = c.args in
+    let all : c.loop-t.t ≡ a.events = omega arith in
+    rw all
+    (explaining_all a.site a.events a.count a.w.now c.requires (rw all at since))

@@ -1,0 +1,5 @@
+-- Each call of `put_decimal` within itself has a smaller number.
+use Rattle.text.proofs.+put_decimal.Given as goal
+
+abbrev pub decreases-put_decimal : goal.decreases-put_decimal
+decreases-put_decimal l = l.v
