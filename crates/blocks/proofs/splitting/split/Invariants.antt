@@ -1,14 +1,6 @@
--- `split` meets its contract: the loop cuts one event after another.
-use Prim.Native.Nat.{◌-◌, ◌≤◌}
-use native.Mathlib.Omega.{arith}
-use borrow.Author.Rules.{rules}
-use mathlib.Core.Path.{refl}
-use mathlib.Core.Logic.{inl, inr}
-use Rattle.model.proofs.Tests.{nothing}
-use Rattle.rows.specs.Sites.{Known}
-use Rattle.scratch.specs.Layout.{MOST}
-use Rattle.blocks.proofs.Splits.{Splitting, closing_fits, begin, room, number, fits_closed, fits_open}
-use Rattle.blocks.proofs.Splits.{split_end, known_event, again_inside, again_reset, again_store, split_known}
+-- The loop cuts one event after another.
+use Rattle.std.proofs.Common.{◌-◌}
+use Rattle.blocks.proofs.Splits.{Splitting}
 use Rattle.blocks.proofs.splitting.split.Given as goal
 
 abbrev pub invariant-loop-t : goal.invariant-loop-t

@@ -1,16 +1,8 @@
--- `least_move` meets its contract. The loop's invariant: no move of a machine below n leads into the set.
-use Prim.Native.Nat.{ℕ, zero, suc, ◌+◌, ◌-◌, ◌≤◌, ◌<◌}
-use native.Mathlib.Nat.{le_refl}
-use native.Mathlib.Decide.{dec_le}
-use native.Mathlib.Omega.{arith}
-use mathlib.Core.Path.{◌≡◌, sym, ◌∙◌, subst}
-use mathlib.Core.Logic.{⊎_elim}
-use mathlib.Core.Bool.{Bool, true, false, not, ◌&&◌, true≢false}
-use lib.Dec.{T, T_not, eqb}
+-- The loop's invariant: no move of a machine below n leads into the set.
+use Rattle.std.proofs.Common.{ℕ, ◌-◌, ◌≤◌, ◌<◌, Bool, not, ◌&&◌, T, eqb}
 use Rattle.model.specs.Cxl0.{Machine}
 use Rattle.model.specs.Sharers.{has}
 use Rattle.model.specs.OneLocation.{moved}
-use Rattle.model.proofs.Tests.{and_r, true→T, false→not}
 use Rattle.masks.specs.Sets.{In}
 use Rattle.blocks.specs.Treading.{STAY}
 use Rattle.blocks.proofs.treading.least_move.Given as goal

@@ -1,180 +1,81 @@
--- `tread` meets its contract. The loop's invariant: from the first gap, where the levels are made, the walk has come to
--- gap t.
-use Prim.Native.Nat.{◌-◌, ◌<◌}
+-- `tread` meets its contract.
+use Rattle.std.proofs.Common.{◌≡◌, ℕ, ◌≤◌, List, sym, ap, ◌∙◌, add-one}
 use native.Mathlib.Nat.{le_antisymm}
-use native.Mathlib.Omega.{arith}
-use native.Mathlib.Numerals.{add-one}
-use mathlib.Core.Path.{◌≡◌, sym, ap, ◌∙◌}
-use Rattle.scratch.specs.Layout.{MOST}
+use Rattle.model.specs.Cxl0.{Value}
+use Rattle.entries.specs.declared.Site.{Site}
 use Rattle.scratch.proofs.Events.{meant_read}
+use Rattle.levels.specs.declared.Task.{Task}
 use Rattle.levels.specs.Tasks.{Built}
 use Rattle.segments.specs.Words.{segment_in}
+use Rattle.segments.specs.declared.words.Block.{Block}
 use Rattle.segments.specs.declared.words.Segment.{Segment}
+use Rattle.blocks.specs.declared.treading.Stand.{Stand}
+use Rattle.blocks.specs.Treading.{Treadable}
 use Rattle.blocks.proofs.Stepping.{Underway, kept_under}
 use Rattle.blocks.proofs.Passing.{acts_same}
 use Rattle.blocks.proofs.Treads.{underway_paid, still_paid, underway_event}
 use Rattle.blocks.proofs.Treads.{built_kept, tread_starts, tread_ends}
 use Rattle.blocks.proofs.treading.tread.Goals as goal
 
+-- The segment is as it was, at the start of the loop and in each turn.
+module _ {site : Site} {b : Block} {l : ℕ} {q : Task} {p : Stand} {s : Segment} {w w' : List ℕ}
+    (task : Treadable site b l q p w) (is : s ≡ segment_in w l) (built : Built q s.first p.steps w w') where
+  segment_built : s ≡ segment_in w' l
+  segment_built = is ∙ sym ((built_kept task (rw is at built)).segments l)
+
+  segment_under : {m : Value} {f t : ℕ} {p' : Stand} {w'' : List ℕ} → Underway site b l m q f t p w' p' w''
+      → s ≡ segment_in w'' l
+  segment_under under = segment_built ∙ sym ((kept_under task.low under).segments l)
+
+-- The walk has come to the last gap.
+at_end : {site : Site} {b : Block} {l : ℕ} {m : Value} {q : Task} {f t : ℕ} {p p' : Stand} {w w' : List ℕ}
+    {s : Segment} → s ≡ segment_in w' l → s.end ≤ t → Underway site b l m q f t p w p' w'
+    → Underway site b l m q f s.end p w p' w'
+at_end is last under = rw (le_antisymm (rw (← is) at under.standing.to) last) at under
+
 -- ---- the first levels
-pub build-requires : goal.build-requires
-build-requires c =
-    let pre = c.requires in
-    (rw pre.1 pre.0.payable.ready, omega (arith, pre.0.finite))
 
 pub loop-t-init : goal.loop-t-init
-loop-t-init c =
-    let built : let a : _ = c.args in
-    Built a.q (segment_in a.w.now a.l).first a.p.steps a.w.now c.build.new.w =
-    rw c.requires.1 at c.build.ensures in
-    rw c.requires.1 (tread_starts c.requires.0 built)
+loop-t-init c = rw c.requires.1 (tread_starts c.requires.0 (rw c.requires.1 at c.build.ensures))
 
 -- ---- a turn of the loop: the steps of gap t, and its event
+
 pub pay-paid-requires : goal.pay-paid-requires
 pay-paid-requires c =
-    let built : let a : _ = c.args in
-    Built a.q (segment_in a.w.now a.l).first a.p.steps a.w.now c.build.new.w =
-    rw c.requires.1 at c.build.ensures in
-    let segment-built : let a : _ = c.args in
-    a.s ≡ segment_in c.build.new.w a.l =
-    c.requires.1 ∙ sym ((built_kept c.requires.0 built).segments c.args.l) in
-    let segment : let a : _ = c.args in
-    a.s ≡ segment_in c.loop-t.w a.l =
-    segment-built ∙ sym ((kept_under c.requires.0.low c.loop-t.invariant).segments c.args.l) in
-    (c.loop-t.invariant.payable, c.loop-t.invariant.standing, ap (λ (s : Segment). s.copy) segment)
+    let under = c.loop-t.invariant in
+    let segment = segment_under c.requires.0 c.requires.1 c.build.ensures under in
+    (under.payable, under.standing, ap (λ (s : Segment). s.copy) segment)
 
-pub get_event-requires : goal.get_event-requires
-get_event-requires c =
-    let built : let a : _ = c.args in
-    Built a.q (segment_in a.w.now a.l).first a.p.steps a.w.now c.build.new.w =
-    rw c.requires.1 at c.build.ensures in
-    let segment-built : let a : _ = c.args in
-    a.s ≡ segment_in c.build.new.w a.l =
-    c.requires.1 ∙ sym ((built_kept c.requires.0 built).segments c.args.l) in
-    let paid :
-    let a : _ = c.args in
-    Underway a.site a.b a.l a.p.memory a.q a.s.first c.loop-t.t
-    a.p c.build.new.w c.pay-paid.result c.pay-paid.new.w =
-    underway_paid c.requires.0.low c.loop-t.invariant c.pay-paid.ensures in
-    let inside :
-    c.loop-t.t < (segment_in c.build.new.w c.args.l).end =
-    rw (← segment-built) c.loop-t-test.true in
-    let inside-paid : let a : _ = c.args in
-    c.loop-t.t < (segment_in c.pay-paid.new.w a.l).end =
-    rw ((kept_under c.requires.0.low paid).segments c.args.l) inside in
-    let few : c.loop-t.t < MOST =
-    omega (arith, inside-paid, paid.payable.segment.inside, paid.payable.short) in
-    (paid.payable.room, few)
-
-pub act_at-made-requires : goal.act_at-made-requires
-act_at-made-requires c =
-    let built : let a : _ = c.args in
-    Built a.q (segment_in a.w.now a.l).first a.p.steps a.w.now c.build.new.w =
-    rw c.requires.1 at c.build.ensures in
-    let segment-built : let a : _ = c.args in
-    a.s ≡ segment_in c.build.new.w a.l =
-    c.requires.1 ∙ sym ((built_kept c.requires.0 built).segments c.args.l) in
-    let paid :
-    let a : _ = c.args in
-    Underway a.site a.b a.l a.p.memory a.q a.s.first c.loop-t.t
-    a.p c.build.new.w c.pay-paid.result c.pay-paid.new.w =
-    underway_paid c.requires.0.low c.loop-t.invariant c.pay-paid.ensures in
-    let inside :
-    c.loop-t.t < (segment_in c.build.new.w c.args.l).end =
-    rw (← segment-built) c.loop-t-test.true in
-    let inside-paid : let a : _ = c.args in
-    c.loop-t.t < (segment_in c.pay-paid.new.w a.l).end =
-    rw ((kept_under c.requires.0.low paid).segments c.args.l) inside in
-    let under = paid in
-    let known = under.payable.segment.known _ under.standing.from inside-paid in
-    let r = (under.payable.owner, (rw c.get_event.ensures known, under.standing.fits)) in
-    record {
-      one_to_six = r.0;
-      known = r.1.0;
-      code_bound = r.1.1;
-    }
-
-pub overflow_add-t : goal.overflow_add-t
-overflow_add-t c =
-    let built : let a : _ = c.args in
-    Built a.q (segment_in a.w.now a.l).first a.p.steps a.w.now c.build.new.w =
-    rw c.requires.1 at c.build.ensures in
-    let segment-built : let a : _ = c.args in
-    a.s ≡ segment_in c.build.new.w a.l =
-    c.requires.1 ∙ sym ((built_kept c.requires.0 built).segments c.args.l) in
-    let paid :
-    let a : _ = c.args in
-    Underway a.site a.b a.l a.p.memory a.q a.s.first c.loop-t.t
-    a.p c.build.new.w c.pay-paid.result c.pay-paid.new.w =
-    underway_paid c.requires.0.low c.loop-t.invariant c.pay-paid.ensures in
-    let inside :
-    c.loop-t.t < (segment_in c.build.new.w c.args.l).end =
-    rw (← segment-built) c.loop-t-test.true in
-    let inside-paid : let a : _ = c.args in
-    c.loop-t.t < (segment_in c.pay-paid.new.w a.l).end =
-    rw ((kept_under c.requires.0.low paid).segments c.args.l) inside in
-    let few : c.loop-t.t < MOST =
-    omega (arith, inside-paid, paid.payable.segment.inside, paid.payable.short) in
-    omega (arith, few)
-
-pub loop-t-smaller : goal.loop-t-smaller
-loop-t-smaller c = omega (arith, c.loop-t-test.true)
+pub act_at-made-requires-clause-known : goal.act_at-made-requires-clause-known
+act_at-made-requires-clause-known c =
+    let paid = underway_paid c.requires.0.low c.loop-t.invariant c.pay-paid.ensures in
+    let segment = segment_under c.requires.0 c.requires.1 c.build.ensures paid in
+    let inside = rw segment at c.loop-t-test.true in
+    rw c.get_event.ensures (paid.payable.segment.known _ paid.standing.from inside)
 
 pub loop-t-preserved : goal.loop-t-preserved
 loop-t-preserved c =
-    let built : let a : _ = c.args in
-    Built a.q (segment_in a.w.now a.l).first a.p.steps a.w.now c.build.new.w =
-    rw c.requires.1 at c.build.ensures in
-    let segment-built : let a : _ = c.args in
-    a.s ≡ segment_in c.build.new.w a.l =
-    c.requires.1 ∙ sym ((built_kept c.requires.0 built).segments c.args.l) in
-    let inside :
-    c.loop-t.t < (segment_in c.build.new.w c.args.l).end =
-    rw (← segment-built) c.loop-t-test.true in
-    let t = c.loop-t.t in
-    let event = meant_read c.pay-paid.new.w t c.get_event.result c.get_event.ensures in
-    let copy = ap (λ (s : Segment). s.copy) segment-built in
-    let made = acts_same event copy c.act_at-made.ensures in
-    rw (add-one t) (underway_event c.requires.0.low c.loop-t.invariant c.pay-paid.ensures inside made)
+    let segment = segment_built c.requires.0 c.requires.1 c.build.ensures in
+    let inside = rw segment at c.loop-t-test.true in
+    let event = meant_read c.pay-paid.new.w c.loop-t.t c.get_event.result c.get_event.ensures in
+    let made = acts_same event (ap (λ (s : Segment). s.copy) segment) c.act_at-made.ensures in
+    rw (add-one c.loop-t.t)
+    (underway_event c.requires.0.low c.loop-t.invariant c.pay-paid.ensures inside made)
+
+-- ---- the last gap
 
 pub pay-requires : goal.pay-requires
 pay-requires c =
-    let built : let a : _ = c.args in
-    Built a.q (segment_in a.w.now a.l).first a.p.steps a.w.now c.build.new.w =
-    rw c.requires.1 at c.build.ensures in
-    let segment-built : let a : _ = c.args in
-    a.s ≡ segment_in c.build.new.w a.l =
-    c.requires.1 ∙ sym ((built_kept c.requires.0 built).segments c.args.l) in
-    let segment : let a : _ = c.args in
-    a.s ≡ segment_in c.loop-t.w a.l =
-    segment-built ∙ sym ((kept_under c.requires.0.low c.loop-t.invariant).segments c.args.l) in
-    let at-end :
-    let a : _ = c.args in
-    Underway a.site a.b a.l a.p.memory a.q a.s.first a.s.end
-    a.p c.build.new.w c.loop-t.at c.loop-t.w =
-    let to = rw (← segment) at c.loop-t.invariant.standing.to in
-    rw (le_antisymm to c.loop-t-test.false) at c.loop-t.invariant in
-    (at-end.payable, at-end.standing, ap (λ (s : Segment). s.copy) segment)
+    let segment = segment_under c.requires.0 c.requires.1 c.build.ensures c.loop-t.invariant in
+    let under = at_end segment c.loop-t-test.false c.loop-t.invariant in
+    (under.payable, under.standing, ap (λ (s : Segment). s.copy) segment)
 
 -- So it has walked through the segment.
 pub returns : goal.returns
 returns c =
-    let built : let a : _ = c.args in
-    Built a.q (segment_in a.w.now a.l).first a.p.steps a.w.now c.build.new.w =
-    rw c.requires.1 at c.build.ensures in
-    let segment-built : let a : _ = c.args in
-    a.s ≡ segment_in c.build.new.w a.l =
-    c.requires.1 ∙ sym ((built_kept c.requires.0 built).segments c.args.l) in
-    let segment : let a : _ = c.args in
-    a.s ≡ segment_in c.loop-t.w a.l =
-    segment-built ∙ sym ((kept_under c.requires.0.low c.loop-t.invariant).segments c.args.l) in
-    let at-end :
-    let a : _ = c.args in
-    Underway a.site a.b a.l a.p.memory a.q a.s.first a.s.end
-    a.p c.build.new.w c.loop-t.at c.loop-t.w =
-    let to = rw (← segment) at c.loop-t.invariant.standing.to in
-    rw (le_antisymm to c.loop-t-test.false) at c.loop-t.invariant in
     let pre = c.requires in
-    let under = underway_paid pre.0.low at-end c.pay.ensures in
-    let still = still_paid pre.0.low at-end c.pay.ensures in
-    tread_ends pre.0 built (rw pre.1 at under) (rw pre.1 at still)
+    let segment = segment_under pre.0 pre.1 c.build.ensures c.loop-t.invariant in
+    let end = at_end segment c.loop-t-test.false c.loop-t.invariant in
+    let under = underway_paid pre.0.low end c.pay.ensures in
+    let still = still_paid pre.0.low end c.pay.ensures in
+    tread_ends pre.0 (rw pre.1 at c.build.ensures) (rw pre.1 at under) (rw pre.1 at still)

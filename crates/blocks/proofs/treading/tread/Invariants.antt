@@ -1,19 +1,6 @@
--- `tread` meets its contract. The loop's invariant: from the first gap, where the levels are made, the walk has come to
--- gap t.
-use Prim.Native.Nat.{◌-◌, ◌<◌}
-use native.Mathlib.Nat.{le_antisymm}
-use native.Mathlib.Omega.{arith}
-use native.Mathlib.Numerals.{add-one}
-use mathlib.Core.Path.{◌≡◌, sym, ap, ◌∙◌}
-use Rattle.scratch.specs.Layout.{MOST}
-use Rattle.scratch.proofs.Events.{meant_read}
-use Rattle.levels.specs.Tasks.{Built}
-use Rattle.segments.specs.Words.{segment_in}
-use Rattle.segments.specs.declared.words.Segment.{Segment}
-use Rattle.blocks.proofs.Stepping.{Underway, kept_under}
-use Rattle.blocks.proofs.Passing.{acts_same}
-use Rattle.blocks.proofs.Treads.{underway_paid, still_paid, underway_event}
-use Rattle.blocks.proofs.Treads.{built_kept, tread_starts, tread_ends}
+-- The loop's invariant: from the first gap, where the levels are made, the walk has come to gap t.
+use Rattle.std.proofs.Common.{◌-◌}
+use Rattle.blocks.proofs.Stepping.{Underway}
 use Rattle.blocks.proofs.treading.tread.Given as goal
 
 abbrev pub invariant-loop-t : goal.invariant-loop-t
