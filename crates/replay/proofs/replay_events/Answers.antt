@@ -18,11 +18,13 @@ use Rattle.replay.proofs.Beginning.{stands_first, with_steps, with_none}
 use borrow.Author.Rules.{rules}
 use Rattle.replay.proofs.replay_events.Goals as goal
 
+-- The count of steps is that of a schedule.
 pub overflow_add-ahead : goal.overflow_add-ahead
 overflow_add-ahead c =
     let told = ap scheduled_of (sym c.in-Steps.is) ∙ c.read_schedule.ensures in
     omega (arith, count_few _ _ _ _ told)
 
+-- The records of an accepted log are open with what was opened.
 pub returns-in-Steps : goal.returns-in-Steps
 returns-in-Steps c =
     let told = ap scheduled_of (sym c.in-Steps.is) ∙ c.read_schedule.ensures in

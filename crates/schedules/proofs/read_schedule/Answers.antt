@@ -36,6 +36,7 @@ loop-steps-init c =
     let first = at_first (topology_of a.t) a.events a.file.now (says c) in
     (long_header a.file.now (says c), omega arith, first)
 
+-- A step was found.
 pub returns-then-not-may_follow : goal.returns-then-not-may_follow
 returns-then-not-may_follow c =
     let a = c.args in
@@ -69,6 +70,7 @@ slice_bounds-is_end-start c = omega arith
 pub slice_bounds-is_end-end : goal.slice_bounds-is_end-end
 slice_bounds-is_end-end c = omega arith
 
+-- No step was found.
 pub returns-then-not-is_end : goal.returns-then-not-is_end
 returns-then-not-is_end c =
     let a = c.args in

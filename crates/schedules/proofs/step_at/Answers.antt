@@ -25,6 +25,7 @@ returns-then-not-begins_with c =
     let no_field = sym c.begins_with.ensures ∙ c.if-not-begins_with.true in
     rw (← part_drop a.file.now a.at, no_field)
 
+-- After the question a whole field stands there.
 pub bounds-rest-3 : goal.bounds-rest-3
 bounds-rest-3 c =
     let whole = sym c.begins_with.ensures ∙ c.if-not-begins_with.false in

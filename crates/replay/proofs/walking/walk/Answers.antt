@@ -15,6 +15,7 @@ use Rattle.replay.proofs.walking.walk.Goals as goal
 pub loop-left-init : goal.loop-left-init
 loop-left-init c = λ a g. rw c.start-s.ensures.result_value g
 
+-- What a turn comes to: it stops, or goes on.
 pub returns-then-not-r : goal.returns-then-not-r
 unfolding outcome_of
 returns-then-not-r c = λ a g.

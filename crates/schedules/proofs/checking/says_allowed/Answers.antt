@@ -13,6 +13,7 @@ pub returns-then-not-begins_with : goal.returns-then-not-begins_with
 unfolding says_allowed
 returns-then-not-begins_with c = rw (sym c.begins_with.ensures ∙ c.if-not-begins_with.true)
 
+-- After the first question a whole field stands there.
 pub bounds-s-3 : goal.bounds-s-3
 bounds-s-3 c =
     let whole = sym c.begins_with.ensures ∙ c.if-not-begins_with.false in

@@ -11,6 +11,7 @@ use Rattle.model.proofs.Limits.{mapped}
 use Rattle.schedules.proofs.Homes.{listed, unlisted, beyond, owner_of}
 use Rattle.schedules.proofs.checking.step_fits.Goals as goal
 
+-- What an array's type tells: how many elements it has.
 pub returns-then-x-ge-LOCATIONS : goal.returns-then-x-ge-LOCATIONS
 unfolding step_fits
 returns-then-x-ge-LOCATIONS c =
