@@ -46,12 +46,6 @@ returns-then-not-may_follow c =
     sym (l.invariant.2
     ∙ misfits (topology_of a.t) a.events a.file.now l.at l.least l.steps step may)
 
-pub overflow_add-steps : goal.overflow_add-steps
-overflow_add-steps c = omega arith
-
-pub loop-steps-smaller : goal.loop-steps-smaller
-loop-steps-smaller c = omega arith
-
 pub loop-steps-preserved : goal.loop-steps-preserved
 loop-steps-preserved c =
     let a = c.args in
@@ -60,15 +54,6 @@ loop-steps-preserved c =
     let may = sym c.may_follow.ensures ∙ c.if-not-may_follow.false in
     let next = follows (topology_of a.t) a.events a.file.now l.at l.least l.steps step may in
     (within a.file.now l.at step, omega arith, l.invariant.2 ∙ rw add-one next)
-
-pub slice_bounds-is_end-count : goal.slice_bounds-is_end-count
-slice_bounds-is_end-count c = omega arith
-
-pub slice_bounds-is_end-start : goal.slice_bounds-is_end-start
-slice_bounds-is_end-start c = omega arith
-
-pub slice_bounds-is_end-end : goal.slice_bounds-is_end-end
-slice_bounds-is_end-end c = omega arith
 
 -- No step was found.
 pub returns-then-not-is_end : goal.returns-then-not-is_end
