@@ -2,7 +2,6 @@
 use Prim.Native.Nat.{◌-◌, ◌*◌, ◌%◌, ◌^◌}
 use native.Mathlib.Omega.{arith}
 use mathlib.Core.Path.{◌≡◌}
-use borrow.Author.Rules.{rules}
 use lib.Dec.{eqb, eqb→eq}
 use Rattle.model.specs.Cxl0.{every_machine}
 use Rattle.model.specs.Sharers.{insert}

@@ -1,6 +1,5 @@
 -- `masks::contains` meets its contract.
 use Prim.Native.Nat.{◌/◌, ◌^◌}
-use borrow.Author.Rules.{rules}
 use borrow.Author.Tests.{eqb-true, eq-eqb}
 use lib.Bits.{and_mask}
 use Rattle.masks.proofs.contains.Goals as goal

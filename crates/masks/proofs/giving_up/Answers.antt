@@ -1,5 +1,4 @@
 -- `masks::giving_up` meets its contract, by what a shift up does to the codes that lack the machine.
-use borrow.Author.Rules.{rules}
 use Rattle.masks.proofs.Shifts.{shifted_up}
 use Rattle.masks.proofs.giving_up.Goals as goal
 

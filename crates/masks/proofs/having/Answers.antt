@@ -1,5 +1,4 @@
 -- `masks::having` meets its contract: the intersection with the machine's codes.
-use borrow.Author.Rules.{rules}
 use mathlib.Core.Logic.Iff
 use Rattle.masks.proofs.Sets.{in_and}
 use Rattle.masks.proofs.having.Goals as goal

@@ -1,5 +1,4 @@
 -- `masks::losing` meets its contract: the codes without the machine, and those with it that give it up.
-use borrow.Author.Rules.{rules}
 use Rattle.masks.proofs.Shifts.{losing}
 use Rattle.masks.proofs.losing.Goals as goal
 

@@ -1,9 +1,6 @@
 -- `masks::losing_all` meets its contract. The loop's invariant: the machines of the set below n are lost.
 use Prim.Native.Nat.{◌≤◌, ◌-◌}
-use native.Mathlib.Numerals.{add-one}
-use native.Mathlib.Omega.{arith}
-use mathlib.Core.Path.{◌≡◌}
-use Rattle.masks.proofs.Losses.{Lost, lost_none, lost_more, lost_all}
+use Rattle.masks.proofs.Losses.{Lost}
 use Rattle.masks.proofs.losing_all.Given as goal
 
 abbrev pub invariant-loop-n : goal.invariant-loop-n

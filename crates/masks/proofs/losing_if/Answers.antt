@@ -1,5 +1,4 @@
 -- `masks::losing_if` meets its contract.
-use borrow.Author.Rules.{rules}
 use Rattle.masks.proofs.losing_if.Goals as goal
 
 pub returns-then-yes : goal.returns-then-yes

@@ -1,6 +1,6 @@
 -- `masks::one_move` meets its contract. The loop's invariant: r has the codes that the move of a machine below n takes
 -- into the set.
-use Prim.Native.Nat.{◌+◌, ◌≤◌, ◌-◌}
+use Prim.Native.Nat.{◌+◌}
 use native.Mathlib.Omega.{arith}
 use mathlib.Core.Path.{◌≡◌}
 use Rattle.masks.specs.Sets.{Exactly}

@@ -1,11 +1,8 @@
 -- `masks::one_move` meets its contract. The loop's invariant: r has the codes that the move of a machine below n takes
 -- into the set.
-use Prim.Native.Nat.{◌+◌, ◌≤◌, ◌-◌}
-use native.Mathlib.Omega.{arith}
-use mathlib.Core.Path.{◌≡◌}
-use mathlib.Core.Logic.{⊎_elim}
+use Prim.Native.Nat.{◌≤◌, ◌-◌}
 use Rattle.masks.specs.Sets.{Exactly}
-use Rattle.masks.proofs.OneMove.{MovesBelow, below_first, below_more, below_owner, below_last, to_none}
+use Rattle.masks.proofs.OneMove.{MovesBelow}
 use Rattle.masks.proofs.one_move.Given as goal
 
 abbrev pub invariant-loop-n : goal.invariant-loop-n

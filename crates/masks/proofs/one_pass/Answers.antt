@@ -1,11 +1,8 @@
 -- `masks::one_pass` meets its contract. The loop's invariant: the pass is at machine i, for every owner k
 -- such that `near` began with the codes that are in m once they gain k.
-use Prim.Native.Nat.{ℕ, ◌≤◌, ◌-◌}
 use native.Mathlib.Omega.{arith}
 use mathlib.Core.Path.{◌≡◌}
-use Rattle.model.specs.Sharers.{insert}
-use Rattle.masks.specs.Sets.{In, Exactly, OneToSix}
-use Rattle.masks.proofs.OnePass.{Led, led_none, led_more, led_all}
+use Rattle.masks.proofs.OnePass.{led_none, led_more, led_all}
 use Rattle.masks.proofs.one_pass.Goals as goal
 
 pub loop-i-init : goal.loop-i-init

@@ -1,5 +1,4 @@
 -- `masks::single` meets its contract.
-use borrow.Author.Rules.{rules}
 use Rattle.masks.proofs.Sets.{in_single}
 use Rattle.masks.proofs.single.Goals as goal
 

@@ -2,7 +2,6 @@
 use native.Mathlib.Omega.{arith}
 use mathlib.Core.Logic.Iff
 use mathlib.Core.Bool.{not}
-use borrow.Author.Rules.{rules}
 use Rattle.model.specs.Sharers.{has, insert}
 use Rattle.model.proofs.Tests.{and_iff}
 use Rattle.model.proofs.SilentSteps.{has→some}

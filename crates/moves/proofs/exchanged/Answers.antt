@@ -1,7 +1,6 @@
 -- `moves::exchanged` meets its contract: it is tried for each machine and each code.
 use Prim.Native.Nat.{ℕ, ◌-◌}
 use mathlib.Core.Bool.{Bool}
-use borrow.Author.Rules.{rules}
 use lib.Dec.{eqb, eqb→eq}
 use Rattle.model.specs.Cxl0.{Machine, every_machine}
 use Rattle.model.specs.Sharers.{has, insert, remove}
