@@ -47,8 +47,5 @@ returns-then-others-eq1 c = few _ _ c.requires c.if-others-eq1.true
 pub returns-then-others : goal.returns-then-others
 returns-then-others c = many _ _ c.if-others.true
 
-pub one_pass-requires : goal.one_pass-requires
-one_pass-requires c = c.requires
-
 pub returns : goal.returns
 returns c = c.one_pass.ensures

@@ -8,15 +8,6 @@ use Rattle.masks.proofs.losing_all.Goals as goal
 pub loop-n-init : goal.loop-n-init
 loop-n-init c = (omega arith, omega arith, lost_none c.args.m c.args.d)
 
-pub holds-requires : goal.holds-requires
-holds-requires c = omega arith
-
-pub losing_if-r-requires : goal.losing_if-r-requires
-losing_if-r-requires c = omega arith
-
-pub loop-n-smaller : goal.loop-n-smaller
-loop-n-smaller c = omega arith
-
 pub loop-n-preserved : goal.loop-n-preserved
 loop-n-preserved c =
     let a = c.args in

@@ -11,18 +11,9 @@ use Rattle.masks.proofs.one_move.Goals.{then-n-k, else-n-k}
 pub returns-then-m-le1 : goal.returns-then-m-le1
 returns-then-m-le1 c = to_none _ c.requires _ c.if-m-le1.true
 
-pub gaining-near-requires : goal.gaining-near-requires
-gaining-near-requires c = c.requires
-
 pub loop-n-init : goal.loop-n-init
 loop-n-init c =
     (omega arith, omega arith, below_first _ c.requires _)
-
-pub giving_up-r-requires : goal.giving_up-r-requires
-giving_up-r-requires c = omega arith
-
-pub loop-n-smaller : goal.loop-n-smaller
-loop-n-smaller c = omega arith
 
 pub loop-n-preserved : goal.loop-n-preserved
 loop-n-preserved c =

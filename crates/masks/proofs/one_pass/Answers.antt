@@ -5,17 +5,8 @@ use mathlib.Core.Path.{◌≡◌}
 use Rattle.masks.proofs.OnePass.{led_none, led_more, led_all}
 use Rattle.masks.proofs.one_pass.Goals as goal
 
-pub gaining-near-requires : goal.gaining-near-requires
-gaining-near-requires c = omega arith
-
 pub loop-i-init : goal.loop-i-init
 loop-i-init c = (omega arith, omega arith, λ k o n. led_none k o c.args.m c.gaining-near.result n)
-
-pub giving_up-more-requires : goal.giving_up-more-requires
-giving_up-more-requires c = omega arith
-
-pub loop-i-smaller : goal.loop-i-smaller
-loop-i-smaller c = omega arith
 
 pub loop-i-preserved : goal.loop-i-preserved
 loop-i-preserved c =

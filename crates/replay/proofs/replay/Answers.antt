@@ -3,7 +3,6 @@ use mathlib.Core.Path.{sym, ap, ◌∙◌}
 use Rattle.reader.specs.Answers.{meaning_of}
 use Rattle.reader.proofs.Heads.{accepted_head, refused_number}
 use Rattle.replay.specs.Replaying.{replay_log}
-use borrow.Author.Rules.{rules}
 use Rattle.replay.proofs.replay.Goals as goal
 
 pub returns-in-Accepted : goal.returns-in-Accepted

@@ -1,21 +1,14 @@
 -- `replay_events` opens the log, reads the schedule and walks from the start.
 use native.Mathlib.Omega.{arith}
-use mathlib.Core.Path.{◌≡◌, refl, sym, ap, ◌∙◌}
-use Rattle.model.specs.Meaning.{topology_of}
-use Rattle.log_bytes.specs.Records.{Records}
-use Rattle.log_bytes.specs.Reading.{accepted, read_log}
-use Rattle.log_bytes.specs.Answers.{head_of}
+use mathlib.Core.Path.{refl, sym, ap, ◌∙◌}
 use Rattle.log_bytes.proofs.Each.{bytes_by_index}
 use Rattle.log_bytes.specs.declared.Head.{Head}
 use Rattle.cursors.specs.Opening.{Opens}
 use Rattle.cursors.proofs.Opens.{opens_accepted}
-use Rattle.verdict_file.specs.Answers.{gives}
 use Rattle.schedules.specs.Answers.{scheduled_of}
-use Rattle.schedules.specs.Schedules.{read_schedule, counted}
 use Rattle.replay.specs.Replaying.{Answer}
 use Rattle.replay.proofs.Beginning.{steps_read, none_read, count_few}
 use Rattle.replay.proofs.Beginning.{stands_first, with_steps, with_none}
-use borrow.Author.Rules.{rules}
 use Rattle.replay.proofs.replay_events.Goals as goal
 
 -- The count of steps is that of a schedule.

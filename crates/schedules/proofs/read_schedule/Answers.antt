@@ -1,22 +1,15 @@
 -- `read_schedule` goes from step to step: what the file comes to is what remains after the steps so far.
-use Prim.Native.Nat.{ℕ, ◌≤◌, ◌-◌}
 use native.Mathlib.Numerals.{add-one}
 use native.Mathlib.Omega.{arith}
 use mathlib.Core.Path.{◌≡◌, sym, ap, ◌∙◌}
 use mathlib.Core.Bool.{true}
-use mathlib.Core.List.{List}
-use mathlib.Core.Option.{none, some}
-use lib.ListN.{length}
-use borrow.Author.Rules.{rules}
-use borrow.Author.Tests.{not-true, not-false}
-use Rattle.model.specs.Cxl0.{Topology}
 use Rattle.model.specs.Meaning.{topology_of}
 use Rattle.fields.proofs.Put.{part_drop}
-use Rattle.schedules.specs.Answers.{step_of, step_at_of}
-use Rattle.schedules.specs.Schedules.{step_at, says_allowed, read_schedule, counted}
+use Rattle.schedules.specs.Answers.{step_at_of}
+use Rattle.schedules.specs.Schedules.{says_allowed}
 use Rattle.schedules.proofs.Fields.{long_header}
 use Rattle.schedules.proofs.Cursor.{within}
-use Rattle.schedules.proofs.Remaining.{remaining, not_allowed, at_first}
+use Rattle.schedules.proofs.Remaining.{not_allowed, at_first}
 use Rattle.schedules.proofs.Remaining.{follows, misfits, ends, breaks, too_many}
 use Rattle.schedules.proofs.read_schedule.Goals as goal
 
@@ -46,12 +39,6 @@ returns-then-not-may_follow c =
     sym (l.invariant.2
     ∙ misfits (topology_of a.t) a.events a.file.now l.at l.least l.steps step may)
 
-pub overflow_add-steps : goal.overflow_add-steps
-overflow_add-steps c = omega arith
-
-pub loop-steps-smaller : goal.loop-steps-smaller
-loop-steps-smaller c = omega arith
-
 pub loop-steps-preserved : goal.loop-steps-preserved
 loop-steps-preserved c =
     let a = c.args in
@@ -60,15 +47,6 @@ loop-steps-preserved c =
     let may = sym c.may_follow.ensures ∙ c.if-not-may_follow.false in
     let next = follows (topology_of a.t) a.events a.file.now l.at l.least l.steps step may in
     (within a.file.now l.at step, omega arith, l.invariant.2 ∙ rw add-one next)
-
-pub slice_bounds-is_end-count : goal.slice_bounds-is_end-count
-slice_bounds-is_end-count c = omega arith
-
-pub slice_bounds-is_end-start : goal.slice_bounds-is_end-start
-slice_bounds-is_end-start c = omega arith
-
-pub slice_bounds-is_end-end : goal.slice_bounds-is_end-end
-slice_bounds-is_end-end c = omega arith
 
 -- No step was found.
 pub returns-then-not-is_end : goal.returns-then-not-is_end

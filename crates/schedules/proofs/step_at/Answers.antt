@@ -1,14 +1,8 @@
 -- `step_at` finds the step whose field begins at a position.
-use Prim.Native.Nat.{ℕ, ◌-◌}
 use native.Mathlib.Nat.{le_of_lt}
 use native.Mathlib.Omega.{arith}
-use mathlib.Core.Path.{◌≡◌, sym, ◌∙◌}
-use mathlib.Core.Bool.{true}
-use mathlib.Core.List.{List}
-use lib.ListN.{length, drop_of_length-le}
-use borrow.Author.Rules.{rules}
-use borrow.Author.Tests.{not-true, not-false}
-use borrow.Rule.Slice.PartMut.{mid_of}
+use mathlib.Core.Path.{sym, ◌∙◌}
+use lib.ListN.{drop_of_length-le}
 use Rattle.fields.proofs.Put.{part_drop}
 use Rattle.schedules.specs.Schedules.{begins, first_step, step_at}
 use Rattle.schedules.proofs.Fields.{long}

@@ -1,11 +1,8 @@
 -- `next_at` finds the step that is due, or else the event.
 use native.Mathlib.Omega.{arith}
-use mathlib.Core.Path.{◌≡◌, refl, sym, ap, ◌∙◌}
-use mathlib.Core.Option.{some}
-use Rattle.schedules.specs.Answers.{step_of, step_at_of}
-use Rattle.schedules.specs.Schedules.{step_at}
+use mathlib.Core.Path.{refl, sym, ap, ◌∙◌}
+use Rattle.schedules.specs.Answers.{step_at_of}
 use Rattle.replay.proofs.Going.{step_goes, event_goes, event_goes_last}
-use borrow.Author.Rules.{rules}
 use Rattle.replay.proofs.walking.next_at.Goals as goal
 
 pub returns-then-p-w : goal.returns-then-p-w

@@ -4,7 +4,6 @@ use mathlib.Core.Path.{refl, sym, ap, ◌∙◌}
 use Rattle.cursors.specs.Answers.{event_at_of}
 use Rattle.cursors.proofs.Found.{one_found, not_absent}
 use Rattle.replay.proofs.Going.{attempted}
-use borrow.Author.Rules.{rules}
 use Rattle.replay.proofs.walking.next_event.Goals as goal
 
 pub returns-then-events-w : goal.returns-then-events-w

@@ -2,7 +2,6 @@
 use Rattle.model.specs.Schedule.{silent_of}
 use Rattle.schedules.specs.Answers.{step_of}
 use Rattle.replay.proofs.Going.{propagates}
-use borrow.Author.Rules.{rules}
 use Rattle.replay.proofs.walking.step_silently.Goals as goal
 
 pub returns-then-i-eq0 : goal.returns-then-i-eq0

@@ -1,6 +1,5 @@
 -- `take` comes to what the next thing comes to.
 use Rattle.states.specs.States.{outcome_of}
-use borrow.Author.Rules.{rules}
 use Rattle.replay.proofs.walking.take.Goals as goal
 
 pub returns-in-Step : goal.returns-in-Step

@@ -1,14 +1,9 @@
 -- `walk` takes one thing after the other: its loop keeps `Stands`, with one thing less ahead each time.
-use Prim.Native.Nat.{◌-◌}
 use native.Mathlib.Omega.{arith}
-use mathlib.Core.Path.{◌≡◌, sym, ap, ◌∙◌}
-use borrow.Author.Rules.{rules}
+use mathlib.Core.Path.{sym, ap, ◌∙◌}
 use borrow.Author.Tests.{not-true, not-false}
-use Rattle.model.specs.Cxl0.{start}
-use Rattle.model.specs.Meaning.{topology_of, Outcome}
-use Rattle.states.specs.States.{state_of, outcome_of}
-use Rattle.replay.specs.Replaying.{Answer}
-use Rattle.replay.specs.Places.{taken, Stands, Goes}
+use Rattle.model.specs.Meaning.{Outcome}
+use Rattle.states.specs.States.{outcome_of}
 use Rattle.replay.proofs.Going.{one_ahead, stands_done}
 use Rattle.replay.proofs.walking.walk.Goals as goal
 

@@ -1,7 +1,6 @@
 -- `begins_with` says whether a whole field of a tag and a length stands first.
 use Prim.Native.Nat.{◌+◌}
 use lib.ListN.{length, get_or}
-use borrow.Author.Rules.{rules}
 use borrow.Author.Tests.{le-leb, lt-leb, eq-eqb, ne_eqb}
 use Rattle.schedules.specs.Schedules.{starts, begins}
 use Rattle.schedules.proofs.checking.begins_with.Goals as goal

@@ -1,7 +1,5 @@
 -- `is_end` says whether the bytes are the end and nothing after it.
 use mathlib.Core.Path.{sym, ◌∙◌}
-use borrow.Author.Rules.{rules}
-use borrow.Author.Tests.{not-true, not-false}
 use Rattle.schedules.specs.Schedules.{is_end}
 use Rattle.schedules.proofs.checking.is_end.Goals as goal
 

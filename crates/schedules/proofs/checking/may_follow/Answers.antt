@@ -1,5 +1,4 @@
 -- `may_follow` says whether a step may come next.
-use borrow.Author.Rules.{rules}
 use borrow.Author.Tests.{le-leb, lt-leb}
 use Rattle.schedules.specs.Schedules.{may_follow}
 use Rattle.schedules.proofs.checking.may_follow.Goals as goal

@@ -1,11 +1,9 @@
 -- `says_allowed` says whether a header that says allowed, with event 0, stands first.
 use native.Mathlib.Omega.{arith}
-use mathlib.Core.Path.{◌≡◌, sym, ◌∙◌}
-use mathlib.Core.Bool.{true}
+use mathlib.Core.Path.{sym, ◌∙◌}
 use lib.ListN.{get_or}
-use borrow.Author.Rules.{rules}
-use borrow.Author.Tests.{not-true, not-false, eq-eqb, ne_eqb}
-use Rattle.schedules.specs.Schedules.{begins, says_allowed}
+use borrow.Author.Tests.{eq-eqb, ne_eqb}
+use Rattle.schedules.specs.Schedules.{says_allowed}
 use Rattle.schedules.proofs.Fields.{long}
 use Rattle.schedules.proofs.checking.says_allowed.Goals as goal
 
