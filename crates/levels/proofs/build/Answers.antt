@@ -12,12 +12,6 @@ pub pass-requires : goal.pass-requires
 pass-requires c =
     passable c.requires.0 c.loop-level.invariant.0 (omega arith)
 
-pub overflow_add-level : goal.overflow_add-level
-overflow_add-level c = omega arith
-
-pub loop-level-smaller : goal.loop-level-smaller
-loop-level-smaller c = omega arith
-
 pub loop-level-preserved : goal.loop-level-preserved
 loop-level-preserved c =
     let ready = c.requires.0 in

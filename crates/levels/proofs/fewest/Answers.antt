@@ -35,9 +35,6 @@ bounds-w-from c =
     c.pass-more.ensures.frame.sized ∙ c.loop-level.invariant.reached.frame.sized in
     omega (arith, ready.order, ready.few, ready.room)
 
-pub contains-requires : goal.contains-requires
-contains-requires c = c.requires.1
-
 pub returns-then-contains : goal.returns-then-contains
 returns-then-contains c =
     found c.requires.0 c.loop-level.invariant c.requires.1 c.pass-more.ensures c.args.below c.requires.2
@@ -56,12 +53,6 @@ returns-then-more-q c =
     let no_more = unchanged c.pass-more.result c.args.q.high c.loop-level.level c.if-more-q.true in
     full c.requires.0 c.loop-level.invariant c.requires.1 c.pass-more.ensures c.args.below c.requires.2 absent
     no_more.0 no_more.1
-
-pub overflow_add-level : goal.overflow_add-level
-overflow_add-level c = omega arith
-
-pub loop-level-smaller : goal.loop-level-smaller
-loop-level-smaller c = omega arith
 
 pub loop-level-preserved : goal.loop-level-preserved
 loop-level-preserved c =

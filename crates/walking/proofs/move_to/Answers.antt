@@ -23,17 +23,8 @@ room h =
     let words = length-map (leaving k a.c a.d inv.0) (word_of a.t a.site.location.0) in
     (stored_length inv.3, omega (arith, leaving_few k a.c a.d inv.0))
 
-pub gives_up-requires : goal.gives_up-requires
-gives_up-requires c = omega arith
-
-pub word-requires : goal.word-requires
-word-requires c = omega arith
-
 pub put_if-to-requires : goal.put_if-to-requires
 put_if-to-requires c = omega (arith, room c)
-
-pub loop-n-smaller : goal.loop-n-smaller
-loop-n-smaller c = omega arith
 
 pub loop-n-preserved : goal.loop-n-preserved
 unfolding leaving

@@ -12,12 +12,6 @@ use Rattle.events.proofs.PickingLoop.{UpTo, pick_room, pick_none, pick_begun}
 use Rattle.events.proofs.PickingLoop.{pick_more, pick_counts, pick_done}
 use Rattle.events.proofs.picking.pick_events.Goals as goal
 
-pub head_of-head-requires : goal.head_of-head-requires
-head_of-head-requires c = tt
-
-pub offset_bounds-w-head : goal.offset_bounds-w-head
-offset_bounds-w-head c = omega arith
-
 pub bounds-w-head : goal.bounds-w-head
 bounds-w-head c = omega (arith, c.requires.linked.1.room, c.head_of-head.ensures)
 

@@ -10,36 +10,12 @@ loop-j-init c =
     let a = c.args in
     (omega arith, omega arith, retimed_none a.events a.from a.w.now)
 
-pub overflow_add-v : goal.overflow_add-v
-overflow_add-v c = omega arith
-
-pub offset_bounds-w-j : goal.offset_bounds-w-j
-offset_bounds-w-j c = omega arith
-
-pub bounds-w-j : goal.bounds-w-j
-bounds-w-j c = omega arith
-
 pub retimed_word-requires : goal.retimed_word-requires
 retimed_word-requires c =
     let can = c.requires in
     let inv = c.loop-j.invariant in
     let taken = c.loop-j-test.true in
     (omega arith, next_count can inv.0 taken inv.2, next_index can inv.0 taken inv.2)
-
-pub overflow_add-w : goal.overflow_add-w
-overflow_add-w c = omega arith
-
-pub offset_bounds-w-j-in-loop-j : goal.offset_bounds-w-j-in-loop-j
-offset_bounds-w-j-in-loop-j c = omega arith
-
-pub bounds-w-j-in-loop-j : goal.bounds-w-j-in-loop-j
-bounds-w-j-in-loop-j c = omega arith
-
-pub overflow_add-j : goal.overflow_add-j
-overflow_add-j c = omega arith
-
-pub loop-j-smaller : goal.loop-j-smaller
-loop-j-smaller c = omega arith
 
 pub loop-j-preserved : goal.loop-j-preserved
 loop-j-preserved c =

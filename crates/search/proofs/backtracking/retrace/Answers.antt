@@ -10,9 +10,6 @@ use Rattle.search.proofs.Retracing.{retracing_none, retracing_more}
 use Rattle.search.proofs.Retracing.{retraced_here, retraced_empty, retraced_none}
 use Rattle.search.proofs.backtracking.retrace.Goals as goal
 
-pub last_row-row-requires : goal.last_row-row-requires
-last_row-row-requires c = tt
-
 pub loop-t-init : goal.loop-t-init
 loop-t-init c =
     let a = c.args in
@@ -21,9 +18,6 @@ loop-t-init c =
 pub put_row-requires : goal.put_row-requires
 put_row-requires c =
     row_room c.requires c.loop-t.invariant.written
-
-pub overflow_sub-t : goal.overflow_sub-t
-overflow_sub-t c = omega arith
 
 pub step_back-row-requires : goal.step_back-row-requires
 step_back-row-requires c =
@@ -50,9 +44,6 @@ returns-then-has_waypoint c =
     before_end c.requires c.loop-t.invariant c.loop-t-test.true in
     retraced_here c.requires made within
     (c.has_waypoint.ensures.0 c.if-has_waypoint.true)
-
-pub is_empty-requires : goal.is_empty-requires
-is_empty-requires c = tt
 
 pub returns-then-is_empty : goal.returns-then-is_empty
 returns-then-is_empty c =

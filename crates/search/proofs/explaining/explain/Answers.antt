@@ -35,12 +35,6 @@ returns-then-not-next c =
     explaining_ends a.site a.events a.count a.w.now c.requires since
     c.loop-t-test.true c.go_on-next.ensures (not-true _ c.if-not-next.true)
 
-pub overflow_add-t : goal.overflow_add-t
-overflow_add-t c = omega arith
-
-pub loop-t-smaller : goal.loop-t-smaller
-loop-t-smaller c = omega arith
-
 pub loop-t-preserved : goal.loop-t-preserved
 loop-t-preserved c = (
   omega arith,

@@ -34,12 +34,6 @@ turn-p-requires c =
     c.loop-t.t c.loop-t.p c.loop-t.w c.loop-t.invariant c.loop-t-test.true
     c.put_waypoint.ensures
 
-pub overflow_add-t : goal.overflow_add-t
-overflow_add-t c = omega arith
-
-pub loop-t-smaller : goal.loop-t-smaller
-loop-t-smaller c = omega arith
-
 pub loop-t-preserved : goal.loop-t-preserved
 loop-t-preserved c =
     let a = c.args in

@@ -42,12 +42,6 @@ visit-p-requires c =
     let here = ap (λ (l : Location). l.0) c.at.ensures.1 in
     rw here (visits_can c.requires c.loop-x.invariant.1 listed, sited c)
 
-pub overflow_add-x : goal.overflow_add-x
-overflow_add-x c = omega arith
-
-pub loop-x-smaller : goal.loop-x-smaller
-loop-x-smaller c = omega arith
-
 pub loop-x-preserved : goal.loop-x-preserved
 loop-x-preserved c =
     let here = ap (λ (l : Location). l.0) c.at.ensures.1 in
