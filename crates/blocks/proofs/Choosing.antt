@@ -10,7 +10,7 @@ use mathlib.Core.Logic.{◌↔◌, ◌≢◌}
 use mathlib.Core.Bool.{not, ◌&&◌}
 use mathlib.Core.List.{List}
 use lib.Dec.{T, eqb}
-use Rattle.model.specs.Cxl0.{Machine, Value, Event, silent}
+use Rattle.model.specs.Cxl0.{Machine, Value, Event}
 use Rattle.model.specs.Schedule.{silent_of}
 use Rattle.model.specs.Sharers.{has}
 use Rattle.model.specs.OneLocation as one

@@ -16,7 +16,6 @@ use Rattle.model.proofs.Payments.{pays_more}
 use Rattle.entries.specs.Entries.{site_meant, short_of}
 use Rattle.entries.specs.declared.Acted.{Acted}
 use Rattle.entries.specs.declared.Site.{Site}
-use Rattle.rows.specs.Rows.{state}
 use Rattle.rows.specs.Sites.{Describes}
 use Rattle.scratch.specs.Words.{event_in, events_from}
 use Rattle.scratch.specs.declared.Waypoint.{Waypoint}

@@ -9,7 +9,6 @@ use lib.Dec.{eqb}
 use lib.ListN.{length}
 use Rattle.model.specs.Cxl0.{Value}
 use Rattle.model.specs.OneLocation as model
-use Rattle.model.specs.declared.Event as declared
 use Rattle.entries.specs.Entries.{site_meant}
 use Rattle.entries.specs.declared.Site.{Site}
 use Rattle.scratch.specs.Layout.{WORDS, MOST, ROWS, SEGMENTS, OnlyIn}

@@ -10,7 +10,7 @@ use mathlib.Core.List.{List}
 use lib.Dec.{eqb, eqb→eq}
 use lib.ListN.{length}
 use borrow.Author.Tests.{eq-eqb, ne_eqb}
-use Rattle.model.specs.Cxl0.{Value, Event, event}
+use Rattle.model.specs.Cxl0.{Value, event}
 use Rattle.model.specs.OneLocation.{clears_site, enabled_at, effect}
 use Rattle.model.specs.Meaning.{meant}
 use Rattle.model.proofs.Tests.{by_test, ne_test, T→true, true→T, and_l, and_r}

@@ -10,7 +10,7 @@ use mathlib.Core.Bool.{Bool, true, false, cond, not, ◌&&◌, and-true, and-fal
 use mathlib.Core.List.{List}
 use borrow.Author.Tests.{eq-eqb, ne_eqb}
 use lib.Dec.{T, eqb}
-use Rattle.model.specs.Cxl0.{Value, event}
+use Rattle.model.specs.Cxl0.{Value}
 use Rattle.model.specs.OneLocation.{Site}
 use Rattle.model.specs.Paying.{done}
 use Rattle.model.proofs.Tests.{and_iff}

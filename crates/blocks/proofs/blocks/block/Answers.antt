@@ -1,5 +1,4 @@
 -- `block` meets its contract.
-use borrow.Author.Rules.{rules}
 use Rattle.blocks.proofs.WholeBlocks.{laid, restable, none, ahead, blocked_end, closable, blocked_known}
 use Rattle.blocks.proofs.blocks.block.Goals as goal
 

@@ -1,5 +1,4 @@
 -- `cross` meets its contract.
-use borrow.Author.Rules.{rules}
 use Rattle.blocks.proofs.Planning.{few, room}
 use Rattle.blocks.proofs.Crossing.{treadable, is_planned, crossable, crossed, crossed_end}
 use Rattle.blocks.proofs.blocks.cross.Goals as goal

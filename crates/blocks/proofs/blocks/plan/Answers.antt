@@ -1,8 +1,6 @@
 -- `plan` meets its contract.
 use native.Mathlib.Numerals.{add-one}
 use native.Mathlib.Omega.{arith}
-use borrow.Author.Rules.{rules}
-use Rattle.model.proofs.Tests.{nothing}
 use Rattle.blocks.proofs.Planning.{few, room, restable, backable, least_bound, planned}
 use Rattle.blocks.proofs.blocks.plan.Goals as goal
 

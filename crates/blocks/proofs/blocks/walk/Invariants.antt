@@ -1,8 +1,6 @@
 -- `walk` meets its contract.
-use Prim.Native.Nat.{◌-◌, ◌<◌}
-use native.Mathlib.Omega.{arith}
+use Prim.Native.Nat.{◌-◌}
 use Rattle.blocks.specs.Blocks.{Come}
-use Rattle.blocks.proofs.Walking.{come_none, come_more, through}
 use Rattle.blocks.proofs.blocks.walk.Given as goal
 
 abbrev pub invariant-loop-at : goal.invariant-loop-at

@@ -1,7 +1,6 @@
 -- `weigh_all` meets its contract.
 use native.Mathlib.Omega.{arith}
-use borrow.Author.Rules.{rules}
-use Rattle.blocks.proofs.Pricing.{Pricing, pricing_none, weighable, pricing_more, priced}
+use Rattle.blocks.proofs.Pricing.{pricing_none, weighable, pricing_more, priced}
 use Rattle.blocks.proofs.blocks.weigh_all.Goals as goal
 
 pub loop-l-init : goal.loop-l-init

@@ -1,7 +1,5 @@
 -- `weigh_all` meets its contract.
-use native.Mathlib.Omega.{arith}
-use borrow.Author.Rules.{rules}
-use Rattle.blocks.proofs.Pricing.{Pricing, pricing_none, weighable, pricing_more, priced}
+use Rattle.blocks.proofs.Pricing.{Pricing}
 use Rattle.blocks.proofs.blocks.weigh_all.Given as goal
 
 abbrev pub invariant-loop-l : goal.invariant-loop-l

@@ -6,7 +6,6 @@ use mathlib.Core.Logic.{◌≢◌}
 use mathlib.Core.Bool.{Bool, true, false, ◌&&◌}
 use lib.Dec.{T, T_not, eqb, eqb→eq}
 use lib.Ieee.Fits.{eq→eqb}
-use borrow.Author.Rules.{rules}
 use Rattle.model.specs.Sharers.{has}
 use Rattle.model.proofs.Tests.{and_l, and_r, and_i, true→T, false→not}
 use Rattle.levels.specs.Tasks.{back_in}

@@ -4,7 +4,6 @@ use native.Mathlib.Nat.{mod-eq_of_lt}
 use native.Mathlib.Omega.{arith}
 use mathlib.Core.Path.{◌≡◌, sym, ap, ◌∙◌}
 use lib.Bits.{bit_and, bit_or, and_le_l}
-use borrow.Author.Rules.{rules}
 use Rattle.model.specs.Cxl0.{Machine}
 use Rattle.model.specs.Sharers.{insert}
 use Rattle.model.specs.OneLocation.{moved}

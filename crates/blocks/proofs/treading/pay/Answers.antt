@@ -1,7 +1,6 @@
 -- `pay` meets its contract. The loop's invariant: the steps so far are noted, and i is the next one to take.
 use Prim.Native.Nat.{◌<◌}
 use native.Mathlib.Omega.{arith}
-use Rattle.blocks.specs.Treading.{Chosen}
 use Rattle.blocks.proofs.Stepping.{Underway, underway_none, underway_step, underway_still, takeable}
 use Rattle.blocks.proofs.treading.pay.Goals as goal
 

@@ -2,7 +2,6 @@
 use Prim.Native.Nat.{ℕ, ◌≤◌}
 use native.Mathlib.Omega.{arith}
 use mathlib.Core.Path.{◌≡◌, refl, sym}
-use borrow.Author.Rules.{rules}
 use Rattle.model.specs.Cxl0.{Machine, Value}
 use Rattle.model.specs.OneLocation.{Site, moved}
 use Rattle.rows.specs.Rows.{state}

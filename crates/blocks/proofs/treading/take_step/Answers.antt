@@ -1,11 +1,10 @@
 -- `take_step` meets its contract.
-use Prim.Native.Nat.{ℕ, ◌+◌}
+use Prim.Native.Nat.{◌+◌}
 use native.Mathlib.Nat.{le_refl}
 use native.Mathlib.Omega.{arith}
 use mathlib.Core.Path.{◌≡◌, ◌∙◌}
-use mathlib.Core.List.{List, [], ◌∷◌}
+use mathlib.Core.List.{[], ◌∷◌}
 use lib.ListN.{set}
-use borrow.Author.Rules.{rules}
 use Rattle.scratch.specs.Layout.{BACKS, OnlyIn}
 use Rattle.scratch.specs.Words.{words_at}
 use Rattle.scratch.proofs.Frames.{only_set, only_then, only_wider}

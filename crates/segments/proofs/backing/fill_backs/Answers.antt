@@ -1,13 +1,13 @@
 -- `segments::backing::fill_backs` meets its contract.
-use Rattle.std.proofs.Common.{◌≡◌, ℕ, ◌+◌, ◌-◌, ◌≤◌, List, length, refl, sym, ◌∙◌, arith, rules}
+use Rattle.std.proofs.Common.{◌≡◌, ℕ, ◌+◌, ◌-◌, List, refl, sym, ◌∙◌, arith}
 use lib.ListN.{set}
 use Rattle.entries.specs.declared.Site.{Site}
-use Rattle.scratch.specs.Layout.{WORDS, MOST, BACKS}
+use Rattle.scratch.specs.Layout.{BACKS}
 use Rattle.segments.specs.Words.{segment_in}
 use Rattle.segments.specs.Weighing.{Backable}
 use Rattle.segments.specs.declared.words.Segment.{Segment}
 use Rattle.segments.specs.declared.words.Block.{Block}
-use Rattle.segments.proofs.WriteBacks.{Filling, Fillable, Turn, resetting, stopping, passing}
+use Rattle.segments.proofs.WriteBacks.{Fillable, Turn, resetting, stopping, passing}
 use Rattle.segments.proofs.WriteBacks.{fill_room, fill_known, fill_read}
 use Rattle.segments.proofs.WriteBacks.{fill_last, fill_more, fill_reaches, fill_early, fill_all}
 use Rattle.segments.proofs.backing.fill_backs.Goals as goal

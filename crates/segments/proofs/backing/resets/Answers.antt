@@ -1,7 +1,6 @@
 -- `segments::backing::resets` meets its contract: only crashes, 7 and 11, reset memory.
 use mathlib.Core.Path.{◌≡◌, refl, ap, ◌∙◌}
 use mathlib.Core.Bool.{Bool, true, false, ◌&&◌, and-true, and-false}
-use borrow.Author.Rules.{rules}
 use borrow.Author.Tests.{not-true, not-false, ne_eqb}
 use lib.Dec.{T, eqb, eqb→eq}
 use Rattle.model.specs.Cxl0.{Machine, crashes}

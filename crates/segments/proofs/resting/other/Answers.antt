@@ -1,6 +1,5 @@
 -- `segments::resting::other` meets its contract.
 use mathlib.Core.Path.{sym, ap, ◌∙◌}
-use borrow.Author.Rules.{rules}
 use Rattle.segments.proofs.Rests.{other_here, other_end}
 use Rattle.segments.specs.declared.words.Costs.{Costs}
 use Rattle.segments.proofs.resting.other.Goals as goal

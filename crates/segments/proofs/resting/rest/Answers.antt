@@ -1,5 +1,5 @@
 -- `segments::resting::rest` meets its contract.
-use Rattle.std.proofs.Common.{◌≡◌, ◌+◌, sym, ap, ◌∙◌}
+use Rattle.std.proofs.Common.{◌+◌, sym, ap, ◌∙◌}
 use Rattle.segments.specs.Words.{CostsFit}
 use Rattle.segments.specs.Costs.{lesser, plus}
 use Rattle.segments.specs.declared.words.Costs.{Costs}

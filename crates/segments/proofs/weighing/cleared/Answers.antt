@@ -1,6 +1,5 @@
 -- `segments::weighing::cleared` meets its contract.
 use native.Mathlib.Numerals.{add-one}
-use borrow.Author.Rules.{rules}
 use borrow.Author.Tests.{lt-ltb, le-ltb}
 use Rattle.segments.proofs.weighing.cleared.Goals as goal
 

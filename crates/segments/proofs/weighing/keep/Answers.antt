@@ -4,7 +4,6 @@ use native.Mathlib.Omega.{arith}
 use mathlib.Core.Path.{◌≡◌, sym, subst}
 use mathlib.Core.Logic.{◌≢◌}
 use mathlib.Core.Bool.{Bool, true, false, true≢false, ◌&&◌}
-use borrow.Author.Rules.{rules}
 use borrow.Author.Tests.{lt-ltb}
 use lib.Dec.{ltb, ltb→lt}
 use Rattle.model.proofs.Tests.{T→true, true→T, and_l, and_r}
@@ -12,7 +11,6 @@ use Rattle.scratch.specs.Layout.{LEVELS, BACKS}
 use Rattle.scratch.proofs.Frames.{only_none, only_wider}
 use Rattle.levels.specs.Tasks.{Ready}
 use Rattle.levels.specs.declared.Task.{Task}
-use Rattle.segments.specs.Weighing.{keeping_of}
 use Rattle.segments.proofs.Cheapest.{keeps_free, keeps_for_some}
 use Rattle.segments.proofs.weighing.keep.Goals as goal
 

@@ -2,7 +2,6 @@
 use Prim.Native.Nat.{ℕ, ◌≤◌}
 use native.Mathlib.Omega.{arith}
 use mathlib.Core.Path.{◌≡◌, refl, sym, ◌∙◌, ap, ap₂, subst}
-use borrow.Author.Rules.{rules}
 use Rattle.scratch.proofs.Frames.{only_wider}
 use Rattle.levels.specs.Stretches.{FAR}
 use Rattle.segments.specs.Costs.{lesser, plus}

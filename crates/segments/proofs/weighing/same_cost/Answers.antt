@@ -1,7 +1,6 @@
 -- `same_cost` meets its contract.
 use Prim.Native.Nat.{ℕ, ◌+◌, ◌≤◌}
 use mathlib.Core.Path.{◌≡◌, sym, ◌∙◌, ap, subst}
-use borrow.Author.Rules.{rules}
 use Rattle.levels.specs.Stretches.{FAR}
 use Rattle.levels.specs.Tasks.{Fewest}
 use Rattle.segments.specs.Costs.{lesser}

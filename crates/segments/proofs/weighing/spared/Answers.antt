@@ -1,6 +1,5 @@
 -- `segments::weighing::spared` meets its contract.
 use native.Mathlib.Omega.{arith}
-use borrow.Author.Rules.{rules}
 use borrow.Author.Tests.{le-leb, lt-leb}
 use Rattle.levels.specs.Stretches.{FAR}
 use Rattle.segments.proofs.weighing.spared.Goals as goal

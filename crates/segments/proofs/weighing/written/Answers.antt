@@ -1,5 +1,4 @@
 -- `written` meets its contract: one case for each answer.
-use borrow.Author.Rules.{rules}
 use borrow.Author.Tests.{eq-eqb, ne_eqb}
 use Rattle.segments.proofs.weighing.written.Goals as goal
 

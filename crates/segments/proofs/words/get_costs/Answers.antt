@@ -1,6 +1,5 @@
 -- `segments::words::get_costs` meets its contract.
 use mathlib.Core.Path.{refl}
-use borrow.Author.Rules.{rules}
 use Rattle.segments.specs.Words.{costs_in}
 use Rattle.segments.proofs.words.get_costs.Goals as goal
 

@@ -1,6 +1,5 @@
 -- `segments::words::get_segment` meets its contract.
 use mathlib.Core.Path.{refl}
-use borrow.Author.Rules.{rules}
 use Rattle.segments.specs.Words.{segment_in}
 use Rattle.segments.proofs.words.get_segment.Goals as goal
 

@@ -1,6 +1,5 @@
 -- `segments::words::put_costs` meets its contract.
 use native.Mathlib.Omega.{arith}
-use borrow.Author.Rules.{rules}
 use Rattle.segments.proofs.Packing.{costs_put}
 use Rattle.segments.proofs.words.put_costs.Goals as goal
 

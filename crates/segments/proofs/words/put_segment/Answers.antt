@@ -1,6 +1,5 @@
 -- `segments::words::put_segment` meets its contract.
 use native.Mathlib.Omega.{arith}
-use borrow.Author.Rules.{rules}
 use Rattle.segments.proofs.Packing.{segment_put}
 use Rattle.segments.proofs.words.put_segment.Goals as goal
 
