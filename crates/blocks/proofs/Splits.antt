@@ -259,7 +259,8 @@ module _ {site : Site} {p : Place} {k : ℕ} {w₀ : List ℕ} (start : Splittab
         asks_value m =
             by_test (eqb kind 5)
             (λ five.
-            let value : read_of (event_in w t) ≡ e.value = rw (← means) (read_value e u (sym is ∙ eqb→eq kind 5 five)) in
+            let value : read_of (event_in w t)
+            ≡ e.value = rw (← means) (read_value e u (sym is ∙ eqb→eq kind 5 five)) in
             rw value)
             (λ other. rw (ne_eqb kind 5 (ne_test kind 5 other)))
 

@@ -1,5 +1,5 @@
 -- The walk through one segment: what it asks and leaves.
-use Rattle.std.specs.Prelude.{ℕ, suc, ◌+◌, ◌-◌, ◌≤◌, ◌<◌, ◌≡◌, ◌↔◌, ◌≢◌, true, not, ◌&&◌, List, [], ◌∷◌, T, eqb, length}
+use Rattle.std.specs.Prelude.{ℕ, suc, ◌+◌, ◌-◌, ◌≤◌, ◌<◌, ◌≡◌, ◌↔◌, ◌≢◌, not, ◌&&◌, List, [], ◌∷◌, T, eqb, length}
 use Rattle.model.specs.Cxl0.{Machine, Value}
 use Rattle.model.specs.Sharers.{has}
 use Rattle.model.specs.OneLocation.{Local, event_at, moved}
@@ -72,7 +72,8 @@ stood w l p = state p.code (segment_in w l).copy p.memory
 pub record Chosen (site : Site) (b : Block) (l t : ℕ) (p : Stand) (w : List ℕ) (r : ℕ) : Type 0 where
   pub most : r ≤ STAY
   pub takes : r < STAY → (0 < p.steps) × can_step (site_meant site) r (stood w l p)
-      × Pays (site_meant site) (events_from w t (b.end - t)) (after_step (site_meant site) r (stood w l p)) (p.steps - 1)
+      × Pays (site_meant site) (events_from w t (b.end - t)) (after_step (site_meant site) r (stood w l p))
+      (p.steps - 1)
   pub least : (j : Machine) → j < r → can_step (site_meant site) j (stood w l p)
       → (y : ℕ) → suc y ≤ p.steps
       → ¬ Pays (site_meant site) (events_from w t (b.end - t)) (after_step (site_meant site) j (stood w l p)) y

@@ -39,7 +39,8 @@ run_started sys [] r = tt
 run_started sys {es = es} (event e ∷ acts) r =
     let all = ap length r.of in
     schedule_from_in_order 1 1 (length es) acts (omega arith) (omega (arith, all))
-run_started sys {x} (silent a ∷ acts) r = absurd (no_step (site_of sys x) a (start_at sys x) refl (step_first sys x r).1)
+run_started sys {x} (silent a ∷ acts) r =
+    absurd (no_step (site_of sys x) a (start_at sys x) refl (step_first sys x r).1)
 
 -- So has the shortest schedule.
 pub shortest_started : (sys : Topology) {x : Location} {es : List Event} {ps : List Step} → ShortestAt sys x es ps

@@ -187,7 +187,8 @@ load_cache sys f r i x v l h j y =
 
 -- After a store the short forms show what the caches hold.
 store_cache : (sys : Topology) (f : Location → Local) → WellFormed sys → (form : Form)
-    → (i : Machine) (x : Location) (v : Value) → T (is_machine sys i && is_location sys x) → (j : Machine) (y : Location)
+    → (i : Machine) (x : Location) (v : Value) → T (is_machine sys i && is_location sys x)
+    → (j : Machine) (y : Location)
     → (stored sys form i x v (expand f)).cache j y
     ≡ shown j (cond (eqb y x) (stored_at (site_of sys y) form i v (f y)) (f y))
 unfolding site_of expand

@@ -192,7 +192,8 @@ module _ (sys : Topology) (x : Location) where
       record {
         order = (in_order_cons n (n + length es) (own_step x n i) ps).1 (le_refl n, omega arith, h.order);
         own = λ p m. ⊎_elim (ap (λ (q : Step). q.location)) (h.own p) (Memᴰ.cases_cons m);
-        runs = rw (weave_due n es (own_step x n i) ps (le_refl n)) (run_of_step sys x here can (shortest_run_of h)).runs;
+        runs = rw (weave_due n es (own_step x n i) ps (le_refl n))
+            (run_of_step sys x here can (shortest_run_of h)).runs;
         fewest = fewest;
         smallest = smallest;
       }

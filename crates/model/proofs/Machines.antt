@@ -48,7 +48,8 @@ unfolding every_machine
 every_e zero test t i l h = absurd (not-suc-le-zero (le_trans l h))
 every_e (suc n) test t i l h =
     by_test (eqb i (suc n))
-    (λ e. subst (λ (j : Machine). T (test j)) (sym (eqb→eq i (suc n) e)) (and_l (test (suc n)) (every_machine n test) t))
+    (λ e. subst (λ (j : Machine). T (test j)) (sym (eqb→eq i (suc n) e))
+    (and_l (test (suc n)) (every_machine n test) t))
     (λ e. every_e n test (and_r (test (suc n)) (every_machine n test) t) i l (omega (arith, ne_test i (suc n) e)))
 
 pub every_i : (n : ℕ) (test : Machine → Bool) → ((i : Machine) → 1 ≤ i → i ≤ n → T (test i)) → T (every_machine n test)

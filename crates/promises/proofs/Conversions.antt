@@ -133,7 +133,8 @@ module _ (s out : List ℕ) (a : Converted) (out' : List ℕ) (call : Converts s
 
   -- Two calls of the judge, one for each edition.
   module _ (area : List ℕ) (offset : ℕ) (scratch : List ℕ) (j : Judged) (area' scratch' : List ℕ)
-      (first : outcome_of j area' scratch' ≡ judgement s area offset scratch) (fit : areas_fit area offset scratch ≡ true)
+      (first : outcome_of j area' scratch' ≡ judgement s area offset scratch)
+      (fit : areas_fit area offset scratch ≡ true)
       (room : List ℕ) (at : ℕ) (words : List ℕ) (k : Judged) (room' words' : List ℕ)
       (second : outcome_of k room' words' ≡ judgement t room at words) (fits : areas_fit room at words ≡ true) where
     pub same_answer : judging.answer_of j ≡ judging.answer_of k

@@ -56,7 +56,7 @@ use Rattle.moves.specs.Table.{table, number_at}
 use Rattle.moves.proofs.Table
 use Rattle.moves.proofs.Owners
 use Rattle.scratch.specs.Clearing.{zeros}
-use Rattle.judge.specs.Judging.{Answer, gives, refused, answer_of, outcome_of, told, areas_fit, judgement}
+use Rattle.judge.specs.Judging.{gives, refused, answer_of, outcome_of, told, areas_fit, judgement}
 use Rattle.judge.specs.declared.Judged.{Judged}
 use Rattle.promises.proofs.Readings
 use Rattle.promises.proofs.Recordings

@@ -22,7 +22,8 @@ module _ (s : List ℕ) (a : Reading) (answered : meaning_of a ≡ summary_of (r
   read_accepted r e = answered ∙ ap summary_of e
 
   -- An answer that is no refusal is that of an accepted log.
-  of_accepted : (l : Log) {d : Edition} {n p x e : ℕ} → summary_of l ≡ holds d n p x e → (r : Records) × (l ≡ accepted r)
+  of_accepted : (l : Log) {d : Edition} {n p x e : ℕ} → summary_of l ≡ holds d n p x e → (r : Records)
+      × (l ≡ accepted r)
   of_accepted (accepted r) h = (r, refl)
   of_accepted (rejected number) h = clash (cc)
 

@@ -9,7 +9,7 @@ use mathlib.Core.List.Memᴰ
 use mathlib.Core.List.{List, [], ◌∷◌, flat_map, Memᴰ}
 use mathlib.Core.Option.{none, some}
 use lib.Dec.{T}
-use lib.ListN.{length, take, drop}
+use lib.ListN.{take, drop}
 use Rattle.model.specs.Cxl0.{is_machine, is_location, owner, initial, keeps, is_persistent, start, some_machine}
 use Rattle.model.specs.Cxl0.{every_machine, cached, crashes, clears, named, enabled, next, possible, runs}
 use Rattle.model.specs.Cxl0.{Topology, Event, LStore, Load, LFlush, RFlush, Crash, Action, Run, events}
@@ -94,7 +94,8 @@ computed : (explanation (system events4) events4 ≡ some (move ∷ []))
     × (explanation (system events5) events5 ≡ none)
     × (first_unexplained (system events5) events5 ≡ 4)
 unfolding
-    system_of explanation first_unexplained explains schedules_for schedules_of steps_for step_bound first below flat_map
+    system_of explanation first_unexplained explains schedules_for schedules_of steps_for step_bound first below
+    flat_map
     silent_of due schedules.later steps weave_from weave in_order count is_store is_load
     is_machine is_location owner initial keeps is_persistent start some_machine every_machine cached
     has crashes clears named enabled next possible runs

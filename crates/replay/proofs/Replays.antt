@@ -13,7 +13,7 @@ use Rattle.model.specs.Cxl0.{runs, after, Run, events}
 use Rattle.model.specs.Schedule.{Step, weave}
 use Rattle.model.proofs.Tests.{by_test, and_i, and_l, and_r, T→true, not→false}
 use Rattle.log_bytes.proofs.Checks.{clash}
-use Rattle.replay.specs.Replaying.{Answer, yes, no, counted, replay_from, replayed, Stops}
+use Rattle.replay.specs.Replaying.{Answer, counted, replay_from, replayed, Stops}
 
 yes≢no : (n : ℕ) → Answer.no n ≡ Answer.yes → ⊥
 yes≢no n e = clash (cc)

@@ -2,7 +2,7 @@
 -- u is v.
 use mathlib.Core.Path.{◌≡◌, sym, subst}
 use mathlib.Core.Logic.Iff
-use mathlib.Core.Logic.{◌≢◌, ◌⊎◌, inl, inr, ⊎_elim}
+use mathlib.Core.Logic.{◌≢◌, inl, inr, ⊎_elim}
 use lib.Dec.{T}
 use Rattle.model.specs.Cxl0.{Machine, Value}
 use Rattle.model.specs.Sharers.{insert}

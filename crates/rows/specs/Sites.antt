@@ -3,7 +3,7 @@ use Rattle.std.specs.Prelude.{◌<◌, ◌≡◌, false, cond, List, [], ◌∷�
 use Rattle.model.specs.Cxl0.{Location, Value, Topology}
 use Rattle.model.specs.Cxl0.{Event, LStore, RStore, MStore, Load, LFlush, RFlush, Crash, SetCrash, RMW}
 use Rattle.model.specs.Cxl0 as cxl0
-use Rattle.model.specs.OneLocation.{Site, site_of, event_at, effect}
+use Rattle.model.specs.OneLocation.{site_of, event_at, effect}
 use Rattle.model.specs.Operations.{is_operation}
 use Rattle.model.specs.Meaning.{meant}
 use Rattle.model.specs.declared.Event as event

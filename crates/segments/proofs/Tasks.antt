@@ -28,7 +28,8 @@ use Rattle.segments.proofs.Weighings.{kept_in}
 -- The numbers that are left to pay after write-backs in segment l are within the bounds.
 pub record Within (w : List ℕ) (l : ℕ) (r : Bounds) : Type 0 where
   pub least : (t : ℕ) → (segment_in w l).first ≤ t → t ≤ (segment_in w l).end → r.least ≤ back_in w t
-  pub most : (t : ℕ) → (segment_in w l).first ≤ t → t ≤ (segment_in w l).end → back_in w t < FAR → suc (back_in w t) ≤ r.most
+  pub most : (t : ℕ) → (segment_in w l).first ≤ t → t ≤ (segment_in w l).end → back_in w t < FAR
+      → suc (back_in w t) ≤ r.most
 
 -- `high` is at least what is to pay behind the last gap, where that is a number of steps, and at least the bound of the
 -- write-backs.

@@ -57,7 +57,8 @@ pub record IsSegment (k : Site) (w : List ℕ) (b : Block) (l : ℕ) : Type 0 wh
   pub order : (segment_in w l).first ≤ (segment_in w l).end
   pub inside : (segment_in w l).end ≤ b.end
   pub known : (t : ℕ) → (segment_in w l).first ≤ t → t < (segment_in w l).end → Known (struct_in w t)
-  pub inner : (t : ℕ) → (segment_in w l).first ≤ t → t < (segment_in w l).end → Inner (segment_in w l).copy (event_in w t)
+  pub inner : (t : ℕ) → (segment_in w l).first ≤ t → t < (segment_in w l).end
+      → Inner (segment_in w l).copy (event_in w t)
   -- the first reset, if there is one, and else no gap of the segment
   pub early : (t : ℕ) → (segment_in w l).first ≤ t → t < (segment_in w l).end → t < (segment_in w l).reset
       → clears_site (event_in w t) k ≡ false

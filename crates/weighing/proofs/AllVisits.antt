@@ -56,7 +56,10 @@ module _ {t : topology.Topology} {n : ℕ} {w : List ℕ} (can : Weighable t n w
           few = omega arith;
           runs = λ y h. absurd (omega arith);
           ends = λ h. absurd (omega (arith, size));
-          steps = λ e. (rw (slice_empty STEPS w), rw (slice_empty STEPS w) (gathered_none (topology_of t) (logged n w)));
+          steps = λ e. (
+            rw (slice_empty STEPS w),
+            rw (slice_empty STEPS w) (gathered_none (topology_of t) (logged n w)),
+          );
         };
       }
 

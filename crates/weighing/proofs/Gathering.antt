@@ -87,7 +87,8 @@ module _ (sys : Topology) (es : List Event) where
             few = omega (arith, length-append ps qs, g.few, shortest_few sys w listed names new);
             rise = rise_more x ps qs g.rise g.own new.own;
             shortest = λ y h. ⊎_elim
-                (λ e. subst (λ (z : Location). ShortestAt sys z es (at_location z (ps ++ qs))) (sym e) (rw here_new new))
+                (λ e. subst (λ (z : Location). ShortestAt sys z es (at_location z (ps ++ qs))) (sym e)
+                (rw here_new new))
                 (λ l. rw (before_same y l) (g.shortest y l))
                 (eq-or-lt_of_le (le_of_suc-le-suc h));
           }

@@ -1,7 +1,6 @@
 -- `cxl0_convert` packs what `convert` answers.
 use native.Mathlib.Omega.{arith}
 use mathlib.Core.Path.{ap, ◌∙◌}
-use borrow.Author.Rules.{rules}
 use Rattle.log_bytes.proofs.Each.{bytes_by_index}
 use Rattle.capi.specs.Packing.{pack_converted}
 use Rattle.capi.proofs.Sizes.{converted_fits}

@@ -1,5 +1,4 @@
 -- `cxl0_judge` packs what `judge` answers.
-use borrow.Author.Rules.{rules}
 use Rattle.capi.proofs.Sizes.{judged_fits}
 use Rattle.capi.proofs.Packed.{judged_packed}
 use Rattle.capi.proofs.cxl0_judge.Goals as goal

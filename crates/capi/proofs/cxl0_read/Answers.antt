@@ -1,6 +1,5 @@
 -- `cxl0_read` packs what `read` answers.
 use mathlib.Core.Path.{ap, ◌∙◌}
-use borrow.Author.Rules.{rules}
 use Rattle.capi.specs.Packing.{pack_summary}
 use Rattle.capi.proofs.cxl0_read.Goals as goal
 

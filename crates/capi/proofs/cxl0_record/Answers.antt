@@ -1,6 +1,5 @@
 -- `cxl0_record` packs what `record` answers.
 use mathlib.Core.Path.{ap, ◌∙◌}
-use borrow.Author.Rules.{rules}
 use Rattle.capi.specs.Packing.{pack_recorded}
 use Rattle.capi.proofs.Sizes.{recorded_fits}
 use Rattle.capi.proofs.cxl0_record.Goals as goal

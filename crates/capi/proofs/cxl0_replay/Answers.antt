@@ -1,6 +1,5 @@
 -- `cxl0_replay` packs what `replay` answers.
 use mathlib.Core.Path.{ap, ◌∙◌}
-use borrow.Author.Rules.{rules}
 use Rattle.capi.specs.Packing.{pack_replayed}
 use Rattle.capi.proofs.cxl0_replay.Goals as goal
 

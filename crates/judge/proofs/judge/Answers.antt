@@ -1,9 +1,6 @@
 -- `judge` meets its contract.
-use Prim.Native.Nat.{ℕ}
 use mathlib.Core.Path.{◌≡◌, sym, ap, ◌∙◌}
 use mathlib.Core.Bool.{true}
-use mathlib.Core.List.{List}
-use borrow.Author.Rules.{rules}
 use borrow.Author.Tests.{not-true, not-false}
 use Rattle.log_bytes.specs.Records.{Records}
 use Rattle.log_bytes.specs.Reading.{accepted, read_log}
@@ -15,9 +12,10 @@ use Rattle.judge.specs.Judging.{areas_fit}
 use Rattle.judge.proofs.Deciding.{no_room, few_words, areas-fit, too_short, judged, log_refused}
 use Rattle.judge.proofs.judge.Goals as goal
 
-head_read : (h : goal.After-decide-arg-in-Accepted-1) → (r : Records) × (read_log (h.args.log.now) ≡ accepted r) × (head_of r ≡ h.in-Accepted.head)
+head_read : (h : goal.After-decide-arg-in-Accepted-1) → (r : Records) × (read_log h.args.log.now ≡ accepted r)
+    × (head_of r ≡ h.in-Accepted.head)
 head_read h =
-    accepted_head (h.args.log.now) h.in-Accepted.head (sym (ap meaning_of h.in-Accepted.is) ∙ h.read.ensures)
+    accepted_head h.args.log.now h.in-Accepted.head (sym (ap meaning_of h.in-Accepted.is) ∙ h.read.ensures)
 
 pub returns-then-not-has_room : goal.returns-then-not-has_room
 unfolding room

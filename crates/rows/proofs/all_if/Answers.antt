@@ -1,5 +1,4 @@
 -- `rows::all_if` meets its contract.
-use borrow.Author.Rules.{rules}
 use Rattle.masks.proofs.Constants.{in_every}
 use Rattle.rows.proofs.all_if.Goals as goal
 

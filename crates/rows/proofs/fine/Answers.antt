@@ -1,5 +1,4 @@
 -- `rows::fine` meets its contract.
-use borrow.Author.Rules.{rules}
 use mathlib.Core.Logic.Iff
 use Rattle.rows.proofs.fine.Goals as goal
 

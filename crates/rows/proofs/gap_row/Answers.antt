@@ -1,5 +1,4 @@
 -- `rows::gap_row` meets its contract: moves lead into the row, or a write-back does.
-use borrow.Author.Rules.{rules}
 use mathlib.Core.Path.{refl}
 use mathlib.Core.Logic.Iff
 use mathlib.Core.Logic.{◌≢◌}

@@ -1,5 +1,4 @@
 -- `rows::l_flush_row` meets its contract.
-use borrow.Author.Rules.{rules}
 use mathlib.Core.Bool.{not}
 use lib.Dec.{T}
 use Rattle.model.specs.Sharers.{has}

@@ -1,5 +1,4 @@
 -- `rows::last_row` meets its contract.
-use borrow.Author.Rules.{rules}
 use mathlib.Core.Path.{ap, ◌∙◌}
 use Rattle.rows.specs.Rows.{any_row}
 use Rattle.rows.proofs.last_row.Goals as goal

@@ -1,5 +1,4 @@
 -- `rows::load_copies_row` meets its contract: the codes that are not 0, once they gain the machine.
-use borrow.Author.Rules.{rules}
 use mathlib.Core.Logic.{◌≢◌}
 use lib.Bits.{bit_and}
 use Rattle.model.specs.Sharers.{insert}

@@ -1,5 +1,4 @@
 -- `rows::load_row` meets its contract: the load reads memory, or the copies, or is not possible.
-use borrow.Author.Rules.{rules}
 use mathlib.Core.Path.{sym, ◌∙◌}
 use mathlib.Core.Logic.Iff
 use mathlib.Core.Bool.{cond, true≢false}

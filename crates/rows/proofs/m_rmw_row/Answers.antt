@@ -1,5 +1,4 @@
 -- `rows::m_rmw_row` meets its contract: wherever it can read, if code 0 is fine with what it writes.
-use borrow.Author.Rules.{rules}
 use mathlib.Core.Path.{sym, ◌∙◌}
 use mathlib.Core.Bool.{true≢false}
 use Rattle.rows.specs.Rows.{Fine}

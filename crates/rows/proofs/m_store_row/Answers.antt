@@ -1,5 +1,4 @@
 -- `rows::m_store_row` meets its contract: every code, if code 0 is fine.
-use borrow.Author.Rules.{rules}
 use mathlib.Core.Logic.Iff
 use Rattle.rows.proofs.FineRows.{any_of}
 use Rattle.rows.proofs.m_store_row.Goals as goal

@@ -1,5 +1,4 @@
 -- `rows::r_flush_row` meets its contract: code 0 alone.
-use borrow.Author.Rules.{rules}
 use mathlib.Core.Path.{◌≡◌}
 use mathlib.Core.Logic.Iff
 use lib.Bits.{bit_and}

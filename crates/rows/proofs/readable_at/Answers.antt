@@ -1,6 +1,5 @@
 -- `rows::readable_at` meets its contract: with one memory value the row has every code but 0 if the copies have the
 -- value that is read, and code 0 if memory has it.
-use borrow.Author.Rules.{rules}
 use Prim.Native.Nat.{ℕ}
 use mathlib.Core.Path.{◌≡◌, sym, ◌∙◌}
 use mathlib.Core.Logic.Iff

@@ -1,5 +1,4 @@
 -- `rows::readable_row` meets its contract: every code but 0 if the copies have the value, and code 0 with it in memory.
-use borrow.Author.Rules.{rules}
 use mathlib.Core.Path.{◌≡◌}
 use mathlib.Core.Logic.Iff
 use mathlib.Core.Logic.{◌≢◌}

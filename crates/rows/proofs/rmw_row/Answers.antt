@@ -1,6 +1,5 @@
 -- `rows::rmw_row` meets its contract: the store leads into the row after it from every memory value, from one, or from
 -- none.
-use borrow.Author.Rules.{rules}
 use mathlib.Core.Path.{◌≡◌, sym, ◌∙◌}
 use mathlib.Core.Logic.{inl, inr, ⊎_elim}
 use mathlib.Core.Bool.{true≢false}

@@ -1,5 +1,4 @@
 -- `rows::row_before` meets its contract: each arm is a line of the table.
-use borrow.Author.Rules.{rules}
 use native.Mathlib.Omega.{arith}
 use Rattle.model.specs.Cxl0.{crashes}
 use Rattle.model.specs.OneLocation.{enabled_at, effect}

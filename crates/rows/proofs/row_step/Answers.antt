@@ -1,5 +1,4 @@
 -- `rows::row_step` meets its contract, where the event concerns the location and where it does not.
-use borrow.Author.Rules.{rules}
 use mathlib.Core.Path.{sym, ◌∙◌}
 use Rattle.model.proofs.Tests.{true→T, false→not}
 use Rattle.model.specs.Meaning.{meant}

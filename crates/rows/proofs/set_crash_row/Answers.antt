@@ -1,5 +1,4 @@
 -- `rows::set_crash_row` meets its contract, where memory is cleared and where it is kept.
-use borrow.Author.Rules.{rules}
 use native.Mathlib.Nat.{lt_of_le_of_lt}
 use mathlib.Core.Logic.Iff
 use Rattle.model.specs.Sharers.{remove_all}

@@ -1,5 +1,4 @@
 -- `rows::store_row` meets its contract: each of its sets has every code or none.
-use borrow.Author.Rules.{rules}
 use mathlib.Core.Logic.Iff
 use Rattle.rows.proofs.FineRows.{row_of}
 use Rattle.rows.proofs.store_row.Goals as goal

@@ -1,11 +1,9 @@
 -- `clear` meets its contract. The loop's invariant: the first i words are 0,
 -- and the others are as they were.
-use Prim.Native.Nat.{ℕ, ◌-◌, ◌≤◌}
-use native.Mathlib.Omega.{arith}
-use mathlib.Core.Path.{◌≡◌, refl, ap, ◌∙◌}
-use mathlib.Core.List.{List, ◌++◌, append-nil}
-use lib.ListN.{length, set, drop, drop_of_length-le, length-set}
-use borrow.Author.Fill.{fill_more}
+use Prim.Native.Nat.{◌-◌, ◌≤◌}
+use mathlib.Core.Path.{◌≡◌}
+use mathlib.Core.List.{◌++◌}
+use lib.ListN.{length, drop}
 use Rattle.scratch.specs.Clearing.{zeros}
 use Rattle.scratch.proofs.clear.Given as goal
 

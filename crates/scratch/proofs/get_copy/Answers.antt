@@ -1,6 +1,5 @@
 -- `scratch::get_copy` meets its contract.
 use mathlib.Core.Path.{refl}
-use borrow.Author.Rules.{rules}
 use Rattle.scratch.specs.Words.{copy_in}
 use Rattle.scratch.proofs.get_copy.Goals as goal
 

@@ -1,6 +1,5 @@
 -- `scratch::get_row` meets its contract.
 use mathlib.Core.Path.{refl}
-use borrow.Author.Rules.{rules}
 use Rattle.scratch.specs.Words.{row_in}
 use Rattle.scratch.proofs.get_row.Goals as goal
 

@@ -1,6 +1,5 @@
 -- `scratch::get_waypoint` meets its contract.
 use mathlib.Core.Path.{refl}
-use borrow.Author.Rules.{rules}
 use Rattle.scratch.specs.Words.{waypoint_in}
 use Rattle.scratch.proofs.get_waypoint.Goals as goal
 

@@ -1,6 +1,5 @@
 -- `scratch::put_copy` meets its contract.
 use native.Mathlib.Omega.{arith}
-use borrow.Author.Rules.{rules}
 use Rattle.scratch.proofs.Access.{copy_put}
 use Rattle.scratch.proofs.put_copy.Goals as goal
 

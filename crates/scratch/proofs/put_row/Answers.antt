@@ -1,6 +1,5 @@
 -- `scratch::put_row` meets its contract.
 use native.Mathlib.Omega.{arith}
-use borrow.Author.Rules.{rules}
 use lib.ListN.{length-set}
 use Rattle.scratch.proofs.Access.{row_put}
 use Rattle.scratch.proofs.put_row.Goals as goal

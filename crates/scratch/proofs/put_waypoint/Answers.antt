@@ -1,6 +1,5 @@
 -- `scratch::put_waypoint` meets its contract.
 use native.Mathlib.Omega.{arith}
-use borrow.Author.Rules.{rules}
 use Rattle.scratch.proofs.Access.{waypoint_put}
 use Rattle.scratch.proofs.put_waypoint.Goals as goal
 

@@ -1,6 +1,5 @@
 -- `pack_converted` is `pack_converted`.
 use native.Mathlib.Omega.{arith}
-use borrow.Author.Rules.{rules}
 use Rattle.capi.proofs.packing.pack_converted.Goals as goal
 
 pub count-requires : goal.count-requires

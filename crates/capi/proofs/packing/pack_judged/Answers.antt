@@ -1,5 +1,4 @@
 -- `pack_judged` is `pack_judged`.
-use borrow.Author.Rules.{rules}
 use Rattle.capi.proofs.packing.pack_judged.Goals as goal
 
 pub verdict-requires : goal.verdict-requires

@@ -1,5 +1,4 @@
 -- `pack_reading` is `pack_summary`.
-use borrow.Author.Rules.{rules}
 use Rattle.capi.proofs.packing.pack_reading.Goals as goal
 
 pub returns-in-Accepted : goal.returns-in-Accepted

@@ -1,5 +1,4 @@
 -- `pack_recorded` is `pack_recorded`.
-use borrow.Author.Rules.{rules}
 use Rattle.capi.proofs.packing.pack_recorded.Goals as goal
 
 pub count-requires : goal.count-requires

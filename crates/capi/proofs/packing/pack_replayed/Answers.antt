@@ -1,5 +1,4 @@
 -- `pack_replayed` is `pack_replayed`.
-use borrow.Author.Rules.{rules}
 use Rattle.capi.proofs.packing.pack_replayed.Goals as goal
 
 pub returns-in-No : goal.returns-in-No

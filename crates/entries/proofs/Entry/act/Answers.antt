@@ -5,7 +5,6 @@ use mathlib.Core.Path.{refl, ◌∙◌}
 use borrow.Author.Tests.{eq-eqb, ne_eqb}
 use Rattle.model.specs.Operations.{is_operation, event_of}
 use Rattle.model.specs.OneLocation.{enabled_at, effect}
-use Rattle.model.proofs.Tests.{nothing}
 use Rattle.model.proofs.Bits.{free_byte, insert_byte}
 use Rattle.model.proofs.Operations.{no_operation}
 use Rattle.entries.specs.Entries.{short_of, entry_of, acted_of, acted_by}

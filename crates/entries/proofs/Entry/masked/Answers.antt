@@ -1,7 +1,6 @@
 -- `masked` meets its contract.
 use mathlib.Core.Path.{refl}
 use Rattle.entries.specs.Entries.{masked_to}
-use Rattle.model.proofs.Tests.{nothing}
 use Rattle.entries.proofs.Effects.{same_entry}
 use Rattle.entries.proofs.Entry.masked.Goals as goal
 

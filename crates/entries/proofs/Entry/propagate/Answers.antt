@@ -7,7 +7,6 @@ use mathlib.Core.Bool.{not, ◌&&◌}
 use lib.Bits.{and_le_l}
 use Rattle.model.specs.Sharers.{insert}
 use Rattle.model.specs.OneLocation.{enabled_at, effect, moved}
-use Rattle.model.proofs.Tests.{nothing}
 use Rattle.model.proofs.Bits.{has_byte, insert_byte, remove_byte}
 use Rattle.entries.specs.Entries.{short_of, entry_of, acted_of}
 use Rattle.entries.proofs.Effects.{same_entry, same_acted}

@@ -3,7 +3,6 @@ use Prim.Native.Nat.{◌<◌}
 use native.Mathlib.Omega.{arith}
 use mathlib.Core.Path.{refl, ◌∙◌}
 use Rattle.model.specs.OneLocation.{enabled_at, effect}
-use Rattle.model.proofs.Tests.{nothing}
 use Rattle.model.proofs.Bits.{has_byte}
 use Rattle.entries.specs.Entries.{short_of, entry_of, acted_of}
 use Rattle.entries.proofs.Effects.{same_acted}

@@ -2,7 +2,6 @@
 use mathlib.Core.Path.{refl, ap}
 use mathlib.Core.Bool.{not}
 use Rattle.model.specs.Meaning.{topology_of}
-use Rattle.model.proofs.Tests.{nothing}
 use Rattle.entries.specs.Entries.{site_at}
 use Rattle.entries.proofs.Site.at.Goals as goal
 

@@ -3,7 +3,6 @@ use mathlib.Core.Path.{◌≡◌, sym, ap, ◌∙◌}
 use mathlib.Core.Bool.{Bool, ◌&&◌}
 use Rattle.model.specs.Cxl0.{Crash, crashes}
 use Rattle.model.specs.OneLocation.{clears_site}
-use Rattle.model.proofs.Tests.{nothing}
 use Rattle.entries.specs.Entries.{site_meant}
 use Rattle.entries.proofs.Site.left.Goals as goal
 

@@ -3,7 +3,6 @@ use mathlib.Core.Path.{ap, ◌∙◌}
 use Rattle.model.specs.Cxl0.{owner, initial, is_persistent}
 use Rattle.model.specs.OneLocation.{site_of}
 use Rattle.model.specs.Meaning.{topology_of}
-use Rattle.model.proofs.Tests.{nothing}
 use Rattle.entries.specs.Entries.{site_at}
 use Rattle.entries.proofs.Site.of.Goals as goal
 

@@ -36,7 +36,8 @@ loop-p-init c =
     let first_frame : OnlyIn EVENTS ROWS c.args.w.now c.pick_first-p.new.w =
     let frame = copied_frame c.args.w.now _ 0 c.requires.linked.1.room (omega arith) in
     rw c.pick_first-p.ensures.w_after frame in
-    let low : (x : Location) → c.head_of-head.result ≡ head_of x → x < 32 = λ x e. omega (arith, at_head, c.requires.x_bound) in (
+    let low : (x : Location) → c.head_of-head.result ≡ head_of x
+    → x < 32 = λ x e. omega (arith, at_head, c.requires.x_bound) in (
       only_none EVENTS ROWS c.pick_first-p.new.w,
       λ x es e linked within. rw (c.pick_first-p.ensures.w_after, c.pick_first-p.ensures.value)
           (pick_begun (linked_back first_frame linked) within _ (low x e) (rw e)

@@ -12,7 +12,8 @@ use Rattle.events.proofs.picking.pick_events.Given as goal
 abbrev pub invariant-loop-p : goal.invariant-loop-p
 invariant-loop-p l =
     OnlyIn EVENTS ROWS l.initial.w l.w
-    × ((x : Location) (es : List Event) → l.head ≡ head_of x → Linked es l.initial.w → l.m ≤ length es → UpTo es x l.m l.p l.w)
+    × ((x : Location) (es : List Event) → l.head ≡ head_of x → Linked es l.initial.w → l.m ≤ length es
+    → UpTo es x l.m l.p l.w)
 
 abbrev pub decreases-loop-p : goal.decreases-loop-p
 decreases-loop-p l = l.m - l.p.count

@@ -2,7 +2,6 @@
 use Prim.Native.Nat.{◌+◌, ◌≤◌}
 use native.Mathlib.Omega.{arith}
 use lib.ListN.{length}
-use borrow.Author.Rules.{rules}
 use Rattle.scratch.specs.Layout.{SORTED}
 use Rattle.judge.proofs.Answers.{issuable_steps, issuable_number, part_words}
 use Rattle.judge.proofs.issuing.issue.Goals as goal

@@ -8,7 +8,8 @@ use Rattle.model.proofs.Topology.owners_fit.Goals as goal
 pub returns-then-not-is_machine : goal.returns-then-not-is_machine
 returns-then-not-is_machine c =
     let room : length c.args.self.homes ≡ 32 = search mapped in
-    let turn = fit_more c.args.self room c.requires c.loop-at.at c.loop-at-test.true _ (sym c.if-not-is_machine.ensures) in
+    let turn = fit_more c.args.self room c.requires c.loop-at.at c.loop-at-test.true _
+    (sym c.if-not-is_machine.ensures) in
     sym (c.loop-at.invariant ∙ turn)
 
 pub loop-at-preserved : goal.loop-at-preserved

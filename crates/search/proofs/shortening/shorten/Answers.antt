@@ -102,13 +102,21 @@ explain-requires c =
 
 pub returns-then-not-onto : goal.returns-then-not-onto
 returns-then-not-onto c =
-    shortened_none c.requires c.loop-at.invariant c.block-onto.ensures (not-true _ c.if-not-onto.true) c.loop-at-test.true
+    shortened_none c.requires c.loop-at.invariant c.block-onto.ensures
+    (not-true _ c.if-not-onto.true) c.loop-at-test.true
     c.explain.ensures
 
 pub loop-at-smaller : goal.loop-at-smaller
 loop-at-smaller c =
     let crossed = c.block-onto.ensures.crossed (not-false _ c.if-not-onto.false) in
-    omega (arith, crossed.on, crossed.most, c.loop-at-test.true, c.requires.explainable.few, c.loop-at.invariant.free.on)
+    omega (
+      arith,
+      crossed.on,
+      crossed.most,
+      c.loop-at-test.true,
+      c.requires.explainable.few,
+      c.loop-at.invariant.free.on,
+    )
 
 pub loop-at-preserved : goal.loop-at-preserved
 loop-at-preserved c =

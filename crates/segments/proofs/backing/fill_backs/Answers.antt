@@ -73,7 +73,8 @@ pub overflow_add-w-in-loop-t-2 : goal.overflow_add-w-in-loop-t-2
 overflow_add-w-in-loop-t-2 c = omega (arith, (fill_room (fillable c.requires.0 c.requires.1) c.loop-t-2.invariant.1).1)
 
 pub offset_bounds-w-t-in-loop-t-2 : goal.offset_bounds-w-t-in-loop-t-2
-offset_bounds-w-t-in-loop-t-2 c = omega (arith, (fill_room (fillable c.requires.0 c.requires.1) c.loop-t-2.invariant.1).1)
+offset_bounds-w-t-in-loop-t-2 c =
+    omega (arith, (fill_room (fillable c.requires.0 c.requires.1) c.loop-t-2.invariant.1).1)
 
 pub bounds-w-t-in-loop-t-2 : goal.bounds-w-t-in-loop-t-2
 bounds-w-t-in-loop-t-2 c = omega (arith, fill_room (fillable c.requires.0 c.requires.1) c.loop-t-2.invariant.1)

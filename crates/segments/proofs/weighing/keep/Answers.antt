@@ -28,7 +28,7 @@ returns-then-seen-below c =
     record {
       frame = only_none LEVELS BACKS c.args.w.now;
       resets = λ less. absurd (omega (arith, c.requires.0.whole));
-      counts = λ h q tasked. keeps_free h (c.requires.0.task) c.requires.1 tasked so.0 so.1;
+      counts = λ h q tasked. keeps_free h c.requires.0.task c.requires.1 tasked so.0 so.1;
     }
 
 -- They do not, and no step may be spent.
@@ -38,13 +38,13 @@ returns-then-below-le1 c =
     record {
       frame = only_none LEVELS BACKS c.args.w.now;
       resets = λ less. absurd (omega (arith, c.requires.0.whole));
-      counts = λ h q tasked. keeps_for_some h (c.requires.0.task) c.requires.1 tasked so c.if-below-le1.true;
+      counts = λ h q tasked. keeps_for_some h c.requires.0.task c.requires.1 tasked so c.if-below-le1.true;
     }
 
 pub fewest-requires : goal.fewest-requires
 fewest-requires c =
     let a = c.args in
-    let made = subst (λ (q : Task). Ready q a.s.first a.w.now) (sym c.keeping.ensures) (c.requires.0.task) in
+    let made = subst (λ (q : Task). Ready q a.s.first a.w.now) (sym c.keeping.ensures) c.requires.0.task in
     (made, c.requires.0.code, c.requires.0.most)
 
 pub returns : goal.returns

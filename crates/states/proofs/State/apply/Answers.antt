@@ -110,4 +110,5 @@ returns-in-12-to-255-clause-result_value c =
 
 pub returns-in-12-to-255-clause-whole : goal.returns-in-12-to-255-clause-whole
 unfolding applied_of
-returns-in-12-to-255-clause-whole c = rw (no_operation {op = c.args.e.operation} (search rules)) c.refused-in-12-to-255.ensures
+returns-in-12-to-255-clause-whole c =
+    rw (no_operation {op = c.args.e.operation} (search rules)) c.refused-in-12-to-255.ensures

@@ -1,16 +1,14 @@
 -- `are_steps` says whether the words are steps of a file: whether those from `i` on follow is what is left to ask.
-use Prim.Native.Nat.{◌≤◌, ◌-◌}
 use native.Mathlib.Numerals.{add-one}
 use native.Mathlib.Omega.{arith}
-use mathlib.Core.Path.{◌≡◌, refl, sym, ◌∙◌}
-use lib.ListN.{length, drop, length-map, drop_of_length-le}
-use borrow.Author.Rules.{rules}
+use mathlib.Core.Path.{refl, sym, ◌∙◌}
+use lib.ListN.{length, length-map, drop_of_length-le}
 use borrow.Author.Tests.{lt-leb, le-leb, not-true, not-false}
 use Rattle.model.specs.Schedule.{in_order}
 use Rattle.model.specs.Words.{step_of_word}
 use Rattle.verdict_file.specs.Files.{steps_most}
 use Rattle.verdict_file.specs.Writing.{all_three_bytes, writable}
-use Rattle.verdict_file.proofs.Words.{follow, follow_from}
+use Rattle.verdict_file.proofs.Words.{follow_from}
 use Rattle.verdict_file.proofs.filling.are_steps.Goals as goal
 
 pub returns-then-steps-gt-STEPS_MOST : goal.returns-then-steps-gt-STEPS_MOST

@@ -1,16 +1,8 @@
 -- `are_steps` says whether the words are steps of a file: whether those from `i` on follow is what is left to ask.
 use Prim.Native.Nat.{◌≤◌, ◌-◌}
-use native.Mathlib.Numerals.{add-one}
-use native.Mathlib.Omega.{arith}
-use mathlib.Core.Path.{◌≡◌, refl, sym, ◌∙◌}
-use lib.ListN.{length, drop, length-map, drop_of_length-le}
-use borrow.Author.Rules.{rules}
-use borrow.Author.Tests.{lt-leb, le-leb, not-true, not-false}
-use Rattle.model.specs.Schedule.{in_order}
-use Rattle.model.specs.Words.{step_of_word}
-use Rattle.verdict_file.specs.Files.{steps_most}
-use Rattle.verdict_file.specs.Writing.{all_three_bytes, writable}
-use Rattle.verdict_file.proofs.Words.{follow, follow_from}
+use mathlib.Core.Path.{◌≡◌}
+use lib.ListN.{length, drop}
+use Rattle.verdict_file.proofs.Words.{follow}
 use Rattle.verdict_file.proofs.filling.are_steps.Given as goal
 
 abbrev pub invariant-loop-i : goal.invariant-loop-i

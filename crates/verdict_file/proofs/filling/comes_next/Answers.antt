@@ -1,7 +1,6 @@
 -- `comes_next` says whether the word is a step of a file that may come after one with `least` events before it.
 use Prim.Native.Nat.{◌%◌, ◌^◌}
 use native.Mathlib.Omega.{arith}
-use borrow.Author.Rules.{rules}
 use borrow.Author.Tests.{lt-ltb, le-ltb, le-leb, lt-leb}
 use Rattle.model.specs.Words.{step_of_word}
 use Rattle.verdict_file.specs.Writing.{comes_next}

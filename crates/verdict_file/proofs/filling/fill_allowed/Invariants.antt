@@ -1,17 +1,9 @@
 -- `fill_allowed` puts the header, a field for each step and the end, each behind the one before.
-use Prim.Native.Nat.{ℕ, ◌+◌, ◌*◌, ◌≤◌, ◌-◌}
-use native.Mathlib.Numerals.{add-one}
-use native.Mathlib.Omega.{arith}
-use mathlib.Core.Path.{◌≡◌, refl, sym, ap₂, ◌∙◌}
-use mathlib.Core.List.{List, map}
-use lib.ListN.{length, get_or, length-map}
-use borrow.Author.Rules.{rules}
-use Rattle.model.specs.Words.{step_of_word}
-use Rattle.verdict_file.specs.Files.{header, step_field, step_fields, end}
+use Prim.Native.Nat.{◌+◌, ◌*◌, ◌≤◌, ◌-◌}
+use mathlib.Core.Path.{◌≡◌}
+use lib.ListN.{length}
 use Rattle.fields.specs.Put.{put}
-use Rattle.verdict_file.proofs.Files.{length_allowed}
-use Rattle.fields.proofs.Put.{put_none}
-use Rattle.verdict_file.proofs.Words.{fields, few, small, put_word, put_file}
+use Rattle.verdict_file.proofs.Words.{fields}
 use Rattle.verdict_file.proofs.filling.fill_allowed.Given as goal
 
 abbrev pub invariant-loop-i : goal.invariant-loop-i

@@ -3,7 +3,6 @@ use Prim.Native.Nat.{ℕ}
 use native.Mathlib.Omega.{arith}
 use mathlib.Core.Path.{refl, ap₂, ◌∙◌}
 use mathlib.Core.List.{List}
-use borrow.Author.Rules.{rules}
 use Rattle.fields.specs.Numbers.{bytes_of}
 use Rattle.log_bytes.specs.Bytes.{field}
 use Rattle.verdict_file.specs.Files.{header, end, file_of}
