@@ -3,16 +3,14 @@
 # C function that Rattle's own libraries call. `rt check --list-axioms` of a program or a static library lists these, and
 # marks as `reached` those that its proof reaches in any crate; the last line, 'logic=proved ..', counts them after
 # 'axioms=', and after 'foreign=' it names C functions that the crate declares. The check of a plain library is silent
-# about them, so each library that no other crate uses is checked as a static library. The libraries rest on none. The
-# programs rest on what std's input, output and memory rest on, and on nothing else; what none of them reaches is not
-# listed here.
+# about them, so each library that no other crate uses is checked as a static library. The libraries rest on none. Each
+# program rests on what std says of reading, of writing and of the error where one fails, and on nothing else.
 set -u
 cd "$(dirname "$0")/.." || exit 2
 fails=0
 
-# What std says of reading, of writing, of the error where one fails, and of memory.
-of_std='libc::read libc::write libc::lseek os::c::rattle_errno os::c::__xpg_strerror_r'
-of_std="$of_std libc::heap::rattle_alloc libc::heap::rattle_realloc libc::heap::rattle_dealloc"
+# What std says of reading and writing, and of the number and the text of an error.
+of_std='libc::read libc::write os::c::__xpg_strerror_r os::c::rattle_errno'
 
 # listed CRATE: what its check prints, a library's as that of a static one.
 listed() {
@@ -36,13 +34,14 @@ assumed() {
          }'
 }
 
-# beyond CRATE WORDS: those of the words, which its check assumes, that it may not. A program may assume what std says.
-beyond() {
-    local word may=''
-    if [ -f "crates/$1/src/main.rt" ]; then may=$of_std; fi
-    for word in $2; do
-        case " $may " in *" $word "*) ;; *) echo "$word" ;; esac
-    done
+# expect NAME WANTED: what the check whose output is read assumes is WANTED, in any order.
+expect() {
+    local found
+    found=$(assumed | sort | paste -sd ' ')
+    if [ "$found" != "$2" ]; then
+        echo "$1 assumes '$found', where '$2' is expected"
+        fails=1
+    fi
 }
 
 # Two crates that assume something: this script must see it.
@@ -56,11 +55,11 @@ fn main(rt: HostRuntime) -> std::io::Result<()> { std::fs::remove_file(&rt, "a")
 END
     echo 'unsafe extern "C" { safe fn c() -> u8; } pub fn call() -> u8 { c() }' >"$room/crates/declares/src/lib.rt"
     cd "$room" || exit 2
-    if ! beyond removes "$(listed removes | assumed)" | grep -qx libc::unlink; then
+    if ! listed removes | assumed | grep -qx libc::unlink; then
         echo "a program that removes a file: what it assumes was not seen"
         fails=1
     fi
-    if ! beyond declares "$(listed declares | assumed)" | grep -qE '^(foreign=.*|nothing-proved)$'; then
+    if ! listed declares | assumed | grep -qE '^(foreign=.*|nothing-proved)$'; then
         echo "a library with a C function: it was not seen"
         fails=1
     fi
@@ -71,20 +70,10 @@ END
 try_itself
 crates=$(sed -nE 's/^(\w+)( [^:]*)?:.*/\1/p' crates.txt)
 [ -n "$crates" ] || fails=1
-reached=''
 for name in $crates; do
     if sed -nE 's/^\w+[^:#]*:([^#]*).*/\1/p' crates.txt | grep -qw "$name"; then continue; fi
-    words=$(listed "$name" | assumed)
-    reached="$reached $words"
-    found=$(beyond "$name" "$words" | paste -sd ' ')
-    if [ -n "$found" ]; then
-        echo "$name assumes more than it may: $found"
-        fails=1
-    fi
+    wanted=''
+    if [ -f "crates/$name/src/main.rt" ]; then wanted=$of_std; fi
+    expect "$name" "$wanted" < <(listed "$name")
 done
-unreached=$(for word in $of_std; do grep -qxF "$word" <<<"${reached// /$'\n'}" || echo "$word"; done | paste -sd ' ')
-if [ -n "$unreached" ]; then
-    echo "no program reaches $unreached: take it out of of_std"
-    fails=1
-fi
 exit "$fails"
