@@ -1,8 +1,10 @@
 -- What a writer that has asked its questions comes to, and what its answer says.
 use Prim.Native.Nat.{ℕ, ◌+◌, ◌-◌, ◌≤◌}
+use native.Mathlib.Omega.{arith}
 use mathlib.Core.Path.{◌≡◌, refl, sym, ap, ◌∙◌}
 use mathlib.Core.Bool.{Bool, true, false, cond}
 use mathlib.Core.List.{List}
+use lib.Dec.{leb}
 use lib.ListN.{length}
 use borrow.Rule.Slice.PartMut.{mid_of, put_mid}
 use borrow.Author.Tests.{leb-true}
@@ -11,7 +13,7 @@ use Rattle.verdict_file.specs.Files.{Verdict, file_of, file_most}
 use Rattle.verdict_file.specs.Answers.{gives, refused}
 use Rattle.fields.specs.Put.{put}
 use Rattle.verdict_file.specs.Writing.{writable, room, answer, output}
-use Rattle.fields.proofs.Put.{put-part}
+use Rattle.fields.proofs.Put.{put-part, length_part}
 
 pub has_room : (out : List ℕ) (offset : ℕ) → room out offset ≡ true → offset + file_most ≤ length out
 unfolding room
@@ -62,3 +64,32 @@ module _ (out : List ℕ) (offset : ℕ) (v : Verdict) where
       by_questions true true e = (refl, refl, (cc))
       by_questions true false e = clash (cc)
       by_questions false c e = clash (cc)
+
+-- A writer asks first whether the output has room for the longest file.
+module _ (out : List ℕ) (offset : ℕ) {found : Bool} (asked : found ≡ leb (offset + file_most) (length out)) where
+  -- Where it has, the part from the offset on is long enough.
+  pub part_fits : found ≡ true → file_most ≤ length (mid_of offset (length out - offset) out)
+  unfolding room
+  part_fits e =
+      let fits : offset + file_most ≤ length out = has_room out offset (sym asked ∙ e) in
+      omega (arith, length_part out offset)
+
+  -- Where not, the answer is 1, and nothing changes.
+  pub refuses_room : (v : Verdict) → found ≡ false
+      → (refused 1 ≡ answer out offset v) × (out ≡ output out offset v)
+  unfolding room
+  refuses_room v e = refuses out offset v (no_room out offset v (sym asked ∙ e))
+
+  -- Then it asks whether the verdict is of the form.
+  module _ (v : Verdict) {form : Bool} (formed : form ≡ writable v) (e : found ≡ true) where
+    -- Where not, the answer is 13, and nothing changes.
+    pub refuses_form : form ≡ false → (refused 13 ≡ answer out offset v) × (out ≡ output out offset v)
+    unfolding room
+    refuses_form f = refuses out offset v (no_form out offset v (sym asked ∙ e) (sym formed ∙ f))
+
+    -- Where it is, the answer is the length of the file, which is put at the front of the part.
+    pub writes_file : form ≡ true → {n : ℕ} {new : List ℕ} → n ≡ length (file_of v)
+        → new ≡ put (mid_of offset (length out - offset) out) 0 (file_of v)
+        → (gives n ≡ answer out offset v) × (put_mid offset (length out - offset) out new ≡ output out offset v)
+    unfolding room
+    writes_file f = writes out offset v (file out offset v (sym asked ∙ e) (sym formed ∙ f))
