@@ -15,7 +15,7 @@ use Rattle.entries.specs.declared.Acted.{Acted}
 use Rattle.entries.specs.declared.Site.{Site}
 use Rattle.rows.specs.declared.Row.{Row}
 use Rattle.rows.specs.Rows.{Fine, RowOf, Line, Closed}
-use Rattle.rows.specs.Sites.{Known, copy_after}
+use Rattle.rows.specs.Sites.{copy_after}
 use Rattle.scratch.specs.declared.Waypoint.{Waypoint}
 use Rattle.scratch.specs.Words.{event_in, row_in, copy_in, struct_in}
 use Rattle.scratch.proofs.Events.{meant_read}
@@ -26,14 +26,11 @@ use Rattle.walking.proofs.turn.Goals as goal
 
 -- ---- what was read
 
--- Event t, which is known.
+-- What was read as event t means that event.
 module _ {s : Site} {t : ℕ} {p : Waypoint} {w : List ℕ} (stands : Standing s t p w)
     {e : event.Event} (read : e ≡ struct_in w t) where
   told : meant e ≡ event_in w t
   told = meant_read w t e read
-
-  known : Known e
-  known = rw read stands.steppable.known
 
   -- The copies before it, and the row after it, which is closed under the copies that the event leaves.
   module _ {u : Value} (copied : u ≡ copy_in w t) {rest : Row} (after : rest ≡ row_in w (t + 1)) where
@@ -59,12 +56,6 @@ module _ {s : Site} {t : ℕ} {p : Waypoint} {w : List ℕ} (stands : Standing s
 
 -- ---- the gap and the event
 
-pub concerned-requires : goal.concerned-requires
-concerned-requires c = known c.requires c.get_event-e.ensures
-
-pub row_before-row-requires-clause-known : goal.row_before-row-requires-clause-known
-row_before-row-requires-clause-known c = known c.requires c.get_event.ensures
-
 pub row_before-row-requires-clause-closed : goal.row_before-row-requires-clause-closed
 row_before-row-requires-clause-closed c =
     closed c.requires c.get_event.ensures c.get_copy-u.ensures c.get_row-rest.ensures
@@ -77,9 +68,6 @@ gap-q-requires-clause-code_bound c =
       enters stands c.get_event-e.ensures c.get_copy-u.ensures c.get_row-rest.ensures here
           c.get_event.ensures c.row_before-row.result c.row_before-row.ensures,
     )
-
-pub act_at-made-requires-clause-known : goal.act_at-made-requires-clause-known
-act_at-made-requires-clause-known c = known c.requires c.get_event-e.ensures
 
 pub returns-then-concerned : goal.returns-then-concerned
 returns-then-concerned c =
