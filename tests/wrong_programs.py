@@ -30,7 +30,8 @@ ERROR = re.compile(r"(?:\./)?((?:src|specs|proofs)/\S+?):(\d+):\d+: error: (?:`(
 OPEN = re.compile(r"note: (?:\./)?(src/\S+?):(\d+):\d+: it is not proved that .*?\(`([^`]+)(?:`|$)")
 # What is said of a fact that does not hold. Anything else is of a tactic or a name that no longer fits.
 FALSE = re.compile(r"as printed, the two |computed as far as they go, the two |expected type |`omega`: the goal does not follow "
-                   r"|`search`: no proof of |`search` did not prove |give a proof of that as the last argument|`[^`]*`\s+≟ ")
+                   r"|`search`: no proof of |`search` did not prove |give a proof of that as the last argument"
+                   r"|list the missing equation |`[^`]*(?:`\s+≟ |$)")
 # So it is if the two that differ are places of the code: the proof then speaks of another place than the goal does.
 PLACE = re.compile(r"where one has `\S+\.Lts\.[A-Z][\w-]*`")
 # A row of the page: the edit, and its last cell.
@@ -67,7 +68,10 @@ def module_of(file):
 
 def function_at(crate, file, line):
     """The function of a crate that a line of a file of src/ is of. A method's path is that of its type."""
-    lines = (ROOT / "crates" / crate / file).read_text(encoding="utf-8").split("\n")[:int(line)]
+    lines, last = (ROOT / "crates" / crate / file).read_text(encoding="utf-8").split("\n"), int(line)
+    while lines[last - 1].lstrip().startswith("#["):
+        last += 1
+    lines = lines[:last]
     for n in reversed(range(len(lines))):
         if found := re.match(r'( *)(?:pub(?:\(\w+\))? )?(?:\w+ |"C" )*fn (\w+)', lines[n]):
             break
