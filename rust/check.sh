@@ -5,7 +5,8 @@
 set -u
 cd "$(dirname "$0")" || exit 2
 work=$(mktemp -d)
-trap 'rm -rf "$work"' EXIT
+# The tests' folders have links, which rt ci refuses anywhere in the checkout.
+trap 'rm -rf "$work" target/tmp' EXIT
 library=${MALLUVOM_LIB_DIR:-../target/staticlib}/libcapi.a
 passed=0
 failed=0
