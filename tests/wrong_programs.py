@@ -70,6 +70,8 @@ def function_at(crate, file, line):
     """The function of a crate that a line of a file of src/ is of. A method's path is that of its type."""
     lines, last = (ROOT / "crates" / crate / file).read_text(encoding="utf-8").split("\n"), int(line)
     while lines[last - 1].lstrip().startswith("#["):
+        while not lines[last - 1].endswith("]"):
+            last += 1
         last += 1
     lines = lines[:last]
     for n in reversed(range(len(lines))):

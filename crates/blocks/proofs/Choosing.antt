@@ -1,6 +1,6 @@
 -- The step to take at a gap is the least that leaves one step less to pay: a write-back by what is left after it, a
 -- move by the masks of one step less.
-use Prim.Native.Nat.{ℕ, zero, suc, zero-le, ◌+◌, ◌-◌, ◌≤◌, ◌<◌}
+use Prim.Native.Nat.{ℕ, zero, suc, ◌+◌, ◌-◌, ◌≤◌, ◌<◌}
 use native.Mathlib.Nat.{le_refl}
 use native.Mathlib.Decide.{dec_le}
 use native.Mathlib.Omega.{arith}
@@ -10,7 +10,9 @@ use mathlib.Core.Logic.{◌↔◌, ◌≢◌}
 use mathlib.Core.Bool.{not, ◌&&◌}
 use mathlib.Core.List.{List}
 use lib.Dec.{T, eqb}
+use Rattle.std.specs.Prelude.{Option, None, Some}
 use Rattle.model.specs.Cxl0.{Machine, Value, Event}
+use Rattle.model.specs.declared.Machine as machine
 use Rattle.model.specs.Schedule.{silent_of}
 use Rattle.model.specs.Sharers.{has}
 use Rattle.model.specs.OneLocation as one
@@ -34,7 +36,8 @@ use Rattle.segments.specs.Segments.{Costs, stretch_of}
 use Rattle.segments.specs.declared.words.Block.{Block}
 use Rattle.blocks.specs.declared.treading.Stand.{Stand}
 use Rattle.blocks.specs.Toward.{can_step, after_step}
-use Rattle.blocks.specs.Treading.{STAY, LeastMove, Payable, Standing, stood, Chosen}
+use Rattle.blocks.specs.declared.treading.Silent.TheVariants.{WriteBack, Move}
+use Rattle.blocks.specs.Treading.{STAY, mover_of, LeastMove, Payable, Standing, stood, Chosen}
 
 -- ---- silent steps
 
@@ -156,11 +159,15 @@ module _ {site : Site} {b : Block} {l : ℕ} {m : Value} {q : Task} {t : ℕ} {p
   -- ---- the choice
 
   -- A write-back, where it leaves one step fewer.
-  pub chosen_back : T (has site.owner.0 p.code) → back_in w t + 1 ≡ p.steps → Chosen site b l t p w 0
+  pub chosen_back : T (has site.owner.0 p.code) → back_in w t + 1 ≡ p.steps → Chosen site b l t p w (Some WriteBack)
   chosen_back owned e =
       record {
-        most = zero-le;
-        takes = λ less. (omega arith, rw (can_write k here) owned, back_pays e);
+        takes = record {
+          is = tt;
+          some = omega arith;
+          can = rw (can_write k here) owned;
+          pays = back_pays e;
+        };
         least = λ j less. absurd (omega arith);
       }
 
@@ -176,29 +183,35 @@ module _ {site : Site} {b : Block} {l : ℕ} {m : Value} {q : Task} {t : ℕ} {p
     least_of r moves (suc j) less can = not_fewer (suc j) (moves (suc j) (omega arith) less can)
 
     -- No step where there are no codes of one step fewer,
-    pub chosen_none : p.steps ≤ q.low → Chosen site b l t p w STAY
+    pub chosen_none : p.steps ≤ q.low → Chosen site b l t p w None
     chosen_none low =
-        record {
-          most = le_refl STAY;
-          takes = λ less. absurd (omega arith);
-          least = least_of STAY (λ j some less can. move_low low j some can);
-        }
+        record { takes = tt; least = least_of STAY (λ j some less can. move_low low j some can) }
 
-    -- else the least move into the masks.
-    pub chosen_move : q.low < p.steps → (r : ℕ) → LeastMove site.owner.0 p.code (level_in w t) r
-        → Chosen site b l t p w r
-    chosen_move above r least =
-        let moving : (j : Machine) → 1 ≤ j → can_step k j here → T (not (eqb j site.owner.0) && has j p.code) =
-        λ j some can. rw (can_move k j here some) at can in
-        record {
-          most = least.most.1;
-          takes =
-              λ less.
-              let there = least.moves less in
-              let can : can_step k r here = rw (can_move k r here least.most.0) there.0 in
-              (omega arith, can, (move_masks above r least.most.0 can).1 there.1);
-          least =
-              least_of r
-              (λ j some less can more pays.
-              least.least j less (moving j some can) ((move_masks above j some can).0 pays));
-        }
+    -- nor where no move leads into the masks,
+    module _ (above : q.low < p.steps) where
+      not_below : {r : Option machine.Machine} → LeastMove site.owner.0 p.code (level_in w t) r
+          → (j : Machine) → j < mover_of r → can_step k j here
+          → (y : ℕ) → suc y ≤ p.steps → ¬ Pays k ahead (after_step k j here) y
+      not_below {r} least =
+          least_of (mover_of r)
+          (λ j some less can more pays.
+          least.least j less (rw (can_move k j here some) at can) ((move_masks above j some can).0 pays))
+
+      pub chosen_stay : LeastMove site.owner.0 p.code (level_in w t) None → Chosen site b l t p w None
+      chosen_stay least = record { takes = tt; least = not_below least }
+
+      -- else the least one that does.
+      pub chosen_move : {i : machine.Machine} → LeastMove site.owner.0 p.code (level_in w t) (Some i)
+          → Chosen site b l t p w (Some (Move i))
+      chosen_move {i} least =
+          let there = least.moves in
+          let can : can_step k i.0 here = rw (can_move k i.0 here there.0.0) there.1 in
+          record {
+            takes = record {
+              is = there.0;
+              some = omega arith;
+              can = can;
+              pays = (move_masks above i.0 there.0.0 can).1 there.2;
+            };
+            least = not_below least;
+          }

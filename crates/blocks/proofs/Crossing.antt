@@ -4,24 +4,20 @@ use Prim.Native.Nat.{ℕ, suc, zero-le, ◌+◌, ◌-◌, ◌≤◌, ◌<◌}
 use native.Mathlib.Nat.{le_refl, le_trans}
 use native.Mathlib.Numerals.{add-one}
 use native.Mathlib.Omega.{arith}
-use mathlib.Core.Path.{◌≡◌, refl, sym, ap, ◌∙◌}
+use mathlib.Core.Path.{◌≡◌, sym, ◌∙◌}
 use mathlib.Core.List.{List, ◌∷◌}
 use lib.Dec.{T}
 use Rattle.model.specs.Cxl0.{Event, event}
 use Rattle.model.specs.OneLocation.{Local, enabled_at, effect}
 use Rattle.model.specs.OneLocation as model
 use Rattle.model.specs.Paying.{Pays, done, acts}
-use Rattle.model.specs.Meaning.{meant}
-use Rattle.model.specs.declared.Event as declared
 use Rattle.model.proofs.Payments.{AllAt}
-use Rattle.entries.specs.Entries.{site_meant, short_of}
-use Rattle.entries.specs.declared.Acted.{Acted}
+use Rattle.entries.specs.Entries.{site_meant}
 use Rattle.entries.specs.declared.Site.{Site}
 use Rattle.rows.specs.Rows.{state}
 use Rattle.scratch.specs.Layout.{MOST, ROWS, SEGMENTS, OnlyIn}
-use Rattle.scratch.specs.Words.{event_in, struct_in, events_from}
+use Rattle.scratch.specs.Words.{event_in, events_from}
 use Rattle.scratch.proofs.Frames.{only_none, only_then, only_wider}
-use Rattle.scratch.proofs.Events.{meant_read}
 use Rattle.levels.specs.Stretches.{FAR}
 use Rattle.levels.specs.declared.Task.{Task}
 use Rattle.segments.specs.Words.{segment_in}
@@ -31,10 +27,9 @@ use Rattle.segments.specs.declared.words.Segment.{Segment}
 use Rattle.segments.specs.declared.words.Block.{Block}
 use Rattle.segments.proofs.Paying.{events_first}
 use Rattle.segments.proofs.Kept.{Kept, kept_between, kept_event}
-use Rattle.walking.specs.Acting.{Acts}
 use Rattle.blocks.specs.Toward.{Walked, Still}
-use Rattle.blocks.specs.Treading.{Treadable, Trodden, stood}
-use Rattle.blocks.specs.Blocks.{between, Planned, Actable, Over, Ahead, Come}
+use Rattle.blocks.specs.Treading.{Treadable, Trodden, stood, Actable, Over}
+use Rattle.blocks.specs.Blocks.{between, Planned, Ahead, Come}
 use Rattle.blocks.specs.declared.treading.Stand.{Stand}
 use Rattle.blocks.proofs.Towards.{toward_event, still_event, all_ahead, walked_free, walked_then, walked_area}
 use Rattle.blocks.proofs.Planning.{segment, short, room, same_segment, same_between, kept_ahead}
@@ -67,26 +62,6 @@ treadable {l = l} {p} at {w' = w'} plan =
           (there.numbered.costed.means l zero-le there.numbered.number p.memory);
       low = at.low;
       space = at.space;
-    }
-
--- What the event that closes a segment makes of where the walk stands.
-pub went_over : {site : Site} {s : Segment} {p : Stand} {w : List ℕ} {d : declared.Event} {made : Acted}
-    → d ≡ struct_in w s.end
-    → Acts site (meant d) s.copy (record { code = p.code; memory = p.memory; end = p.end }) made
-    → Over site s p w (record {
-      code = made.entry.sharers;
-      memory = made.entry.memory;
-      end = p.end;
-      steps = p.steps;
-    })
-unfolding short_of
-went_over {s = closing} {w = w} {d} read does =
-    let leads = rw (meant_read w closing.end d read) at does.leads in
-    record {
-      code = ap (λ (st : Local). st.code) leads;
-      memory = ap (λ (st : Local). st.memory) leads;
-      end = refl;
-      steps = refl;
     }
 
 -- The walk stands at the last gap of segment l.
@@ -185,7 +160,7 @@ module _ {site : Site} {b : Block} {l : ℕ} {p : Stand} {w : List ℕ} (from : 
     near : t < MOST
     near = omega (arith, short from.numbered)
 
-    pub actable : Actable site (segment_in w l) p' w'
+    pub actable : Actable site t p' w'
     actable =
         record {
           room = rw trod.frame.sized (room from.numbered);
@@ -195,7 +170,7 @@ module _ {site : Site} {b : Block} {l : ℕ} {p : Stand} {w : List ℕ} (from : 
           fits = trod.fits;
         }
 
-    module _ {on : Stand} (over : Over site (segment_in w l) p' w' on) where
+    module _ {on : Stand} (over : Over site t (segment_in w l).copy p' w' on) where
       -- The walk stands at the first gap of the next segment.
       abbrev Next : Type 0
       Next =
@@ -277,10 +252,10 @@ module _ {site : Site} {b : Block} {l : ℕ} {p : Stand} {w₀ : List ℕ} (star
       }
 
   module _ {p' : Stand} {w' : List ℕ} (trod : Trodden site b l p w p' w') where
-    pub crossable : s₀.end < b.end → Actable site s₀ p' w'
+    pub crossable : s₀.end < b.end → Actable site s₀.end p' w'
     crossable inside = rw is_planned (actable from trod (rw is_planned at inside))
 
-    pub crossed : s₀.end < b.end → {on : Stand} → Over site s₀ p' w' on → Come site b l p w₀ (l + 1) on w'
+    pub crossed : s₀.end < b.end → {on : Stand} → Over site s₀.end s₀.copy p' w' on → Come site b l p w₀ (l + 1) on w'
     crossed inside over =
         come_planned (come_event from trod (rw is_planned at inside) (rw is_planned at over))
 

@@ -24,6 +24,7 @@ use Rattle.segments.specs.declared.words.Segment.{Segment}
 use Rattle.segments.specs.declared.words.Block.{Block}
 use Rattle.segments.proofs.Rests.{segment_same}
 use Rattle.blocks.specs.Splitting.{kind_of}
+use Rattle.blocks.specs.declared.splitting.Kind.TheVariants.{Inside}
 use Rattle.blocks.proofs.EventKinds.{inner_kind}
 
 -- What stands for no reset.
@@ -133,7 +134,7 @@ cut_alike a cut =
     }
 
 module _ {k : Site} {s₀ : Segment} {w : List ℕ} {l : ℕ} {s : Segment} {t : ℕ} (cuts : Cuts k s₀ w l s t)
-    (inside : kind_of s.copy (event_in w t) ≡ 0) where
+    (inside : kind_of s.copy (event_in w t) ≡ Inside) where
   cuts_grown : (s' : Segment) → Alike s s' → Grown k w s' (suc t) → Cuts k s₀ w l s' (suc t)
   cuts_grown s' a grown =
       record {

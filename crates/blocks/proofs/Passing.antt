@@ -13,12 +13,11 @@ use Rattle.model.specs.OneLocation as one
 use Rattle.model.specs.OneLocation.{Local, enabled_at, effect}
 use Rattle.model.specs.Paying.{Pays, acts}
 use Rattle.model.proofs.Payments.{pays_more}
-use Rattle.entries.specs.Entries.{site_meant, short_of}
-use Rattle.entries.specs.declared.Acted.{Acted}
+use Rattle.entries.specs.Entries.{site_meant}
 use Rattle.entries.specs.declared.Site.{Site}
+use Rattle.rows.specs.Rows.{state}
 use Rattle.rows.specs.Sites.{Describes}
 use Rattle.scratch.specs.Words.{event_in, events_from}
-use Rattle.scratch.specs.declared.Waypoint.{Waypoint}
 use Rattle.levels.specs.Tasks.{Leveled}
 use Rattle.levels.specs.declared.Task.{Task}
 use Rattle.segments.specs.Words.{segment_in}
@@ -27,25 +26,11 @@ use Rattle.segments.specs.declared.words.Block.{Block}
 use Rattle.segments.proofs.Paying.{events_first, inner_leads}
 use Rattle.segments.proofs.Drained.{drained_leads}
 use Rattle.segments.proofs.Links.{memory_next}
-use Rattle.walking.specs.Acting.{Acts}
 use Rattle.blocks.specs.declared.treading.Stand.{Stand}
 use Rattle.blocks.specs.Toward.{Toward, Walked, Still}
-use Rattle.blocks.specs.Treading.{Payable, Standing, stood}
+use Rattle.blocks.specs.Treading.{Payable, Standing, stood, Over}
 use Rattle.blocks.proofs.Towards.{toward_event, still_event, all_ahead, walked_free}
 use Rattle.blocks.proofs.Choosing.{pays_here}
-
--- The waypoint where the walk stands, and where it stands after an event.
-abbrev pub point_of : Stand → Waypoint
-point_of p = record { code = p.code; memory = p.memory; end = p.end }
-
-abbrev pub stand_of : Acted → Stand → Stand
-stand_of made p =
-    record { code = made.entry.sharers; memory = made.entry.memory; end = p.end; steps = p.steps }
-
--- What is said of the same event with the same copies is said of it.
-pub acts_same : {site : Site} {d e : Event} {u v : Value} {p : Waypoint} {made : Acted} → d ≡ e → u ≡ v
-    → Acts site d u p made → Acts site e v p made
-acts_same same copy acted = rw (← same, ← copy) acted
 
 module _ {site : Site} {b : Block} {l : ℕ} {m : Value} {q : Task} {t : ℕ} {p : Stand} {w : List ℕ}
     (task : Payable site b l m q w) (stands : Standing site b l m q t p w) (inside : t < (segment_in w l).end)
@@ -84,18 +69,15 @@ module _ {site : Site} {b : Block} {l : ℕ} {m : Value} {q : Task} {t : ℕ} {p
       let all = rw ahead_first at (all_ahead x w b.end t task.here) in
       rw ahead_first (toward_event sys x k d.here p.steps all next.0 (rw ahead_first at still) next.1)
 
-  module _ {made : Acted} (acted : Acts site e u (point_of p) made) where
-    abbrev p' : Stand
-    p' = stand_of made p
-
+  module _ {p' : Stand} (over : Over site t u p w p') where
     -- The state after it: the copies keep their value.
     leads : after ≡ stood w l p'
-    unfolding short_of
     leads =
         let inner = inner_leads k e p.code u p.memory (task.segment.inner t stands.from inside) in
-        let copy = ap (λ (s : Local). s.copy) (acted.leads ∙ inner) in
-        sym acted.leads
-        ∙ λ i. record { code = made.entry.sharers; copy = copy i; memory = made.entry.memory }
+        let code = sym over.code in
+        let copy = ap (λ (s : Local). s.copy) inner in
+        let memory = sym over.memory in
+        λ i. state (code i) (copy i) (memory i)
 
     -- As many steps are to pay as before it.
     costs_next : Costs k w b.end (suc t) u p'.code p'.memory p.steps
@@ -131,14 +113,14 @@ module _ {site : Site} {b : Block} {l : ℕ} {m : Value} {q : Task} {t : ℕ} {p
         record {
           from = omega (arith, stands.from);
           to = inside;
-          fits = acted.fits;
-          finite = stands.finite;
-          costs = costs_next;
-          low = stands.low;
-          space = stands.space;
-          held = held_next;
+          fits = over.fits;
+          finite = rw over.steps stands.finite;
+          costs = rw over.steps costs_next;
+          low = rw over.end stands.low;
+          space = rw (over.end, over.steps) stands.space;
+          held = rw over.steps held_next;
         }
 
     -- Nothing is noted.
-    pub passed_walked : Walked site b.end w t here p.end w (suc t) (stood w l p') p.end
-    passed_walked = walked_free w p.end (λ sys d. rw leads at (toward_next sys d))
+    pub passed_walked : Walked site b.end w t here p.end w (suc t) (stood w l p') p'.end
+    passed_walked = rw over.end (walked_free w p.end (λ sys d. rw leads at (toward_next sys d)))

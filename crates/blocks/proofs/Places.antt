@@ -29,14 +29,16 @@ use Rattle.segments.specs.declared.words.Segment.{Segment}
 use Rattle.segments.specs.declared.words.Block.{Block}
 use Rattle.segments.proofs.Paying.{inner_leads}
 use Rattle.walking.specs.Acting.{Acts}
-use Rattle.blocks.specs.Splitting.{kind_of}
+use Rattle.std.proofs.Common.{unwrap_or}
+use Rattle.blocks.specs.Splitting.{kind_of, ends_block}
+use Rattle.blocks.specs.declared.splitting.Kind.TheVariants.{OtherRead}
 use Rattle.blocks.specs.Blocks.{between, last_in, Closed}
 use Rattle.blocks.proofs.EventKinds.{read_of, known_after}
 
 -- What the event after the last segment makes of no copy and the block's value in memory is the place.
 pub closed : {site : site.Site} {b : Block} {end : ℕ} {w : List ℕ} {s : Segment} {e : declared.Event} {made : Acted}
     → s ≡ last_in w b → e ≡ struct_in w s.end
-    → Acts site (meant e) s.copy (record { code = 0; memory = b.value; end = end }) made
+    → Acts site (meant e) s.copy (record { code = 0; memory = unwrap_or b.forced 0; end = end }) made
     → Closed site b end w (record {
       gap = b.end;
       code = made.entry.sharers;
@@ -154,9 +156,9 @@ module _ {k : Site} {w : List ℕ} {b : Block} (laid : Segmented k w b 0) (x : L
 
   -- An event after which the state is known follows the last segment.
   module _ {last : ℕ} (count : suc last ≡ b.count) (end : suc (segment_in w last).end ≡ b.end)
-      (known : 3 ≤ kind_of (segment_in w last).copy (event_in w (segment_in w last).end))
-      (value : kind_of (segment_in w last).copy (event_in w (segment_in w last).end) ≡ 5
-      → b.value ≡ read_of (event_in w (segment_in w last).end)) where
+      (known : ends_block (kind_of (segment_in w last).copy (event_in w (segment_in w last).end)) ≡ true)
+      (value : kind_of (segment_in w last).copy (event_in w (segment_in w last).end) ≡ OtherRead
+      → unwrap_or b.forced 0 ≡ read_of (event_in w (segment_in w last).end)) where
     abbrev t : ℕ
     t = (segment_in w last).end
 
@@ -168,16 +170,16 @@ module _ {k : Site} {w : List ℕ} {b : Block} (laid : Segmented k w b 0) (x : L
 
     -- Where that event is possible behind a run of those before, it leads to one state.
     leads_on : (s : Local) → s.copy ≡ u → T (enabled_at k (event e) s)
-        → effect k (event e) s ≡ effect k (event e) (state 0 u b.value)
+        → effect k (event e) s ≡ effect k (event e) (state 0 u (unwrap_or b.forced 0))
     leads_on s same can =
         let shape : s ≡ state s.code u s.memory = λ i. state s.code (same i) s.memory in
         let enabled = subst (λ (z : Local). T (enabled_at k (event e) z)) shape can in
         ap (effect k (event e)) shape
-        ∙ known_after k u e s.code s.memory b.value known value enabled
+        ∙ known_after k u e s.code s.memory (unwrap_or b.forced 0) known value enabled
 
     pub known_behind : (sys : Topology) → site_of sys x ≡ k → (c m : ℕ)
         → KnownAfter sys x (between w first b.end) (state c (segment_in w 0).copy m)
-        (effect k (event e) (state 0 u b.value))
+        (effect k (event e) (state 0 u (unwrap_or b.forced 0)))
     known_behind sys same c m =
         let at = at_end last (omega arith) (at_first last (omega arith)) in
         let own = here t (omega arith) in

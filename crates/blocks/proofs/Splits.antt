@@ -4,16 +4,15 @@ use native.Mathlib.Nat.{le_refl}
 use native.Mathlib.Numerals.{add-one}
 use native.Mathlib.Omega.{arith}
 use mathlib.Core.Path.{◌≡◌, refl, sym, ap, ◌∙◌, subst}
-use mathlib.Core.Logic.{◌≢◌, ◌⊎◌, inl, inr, ⊎_elim}
-use mathlib.Core.Bool.{Bool, true, false, cond, ◌&&◌, ◌||◌, and-true}
+use mathlib.Core.Logic.{◌≢◌, ◌⊎◌, ⊎_elim}
+use mathlib.Core.Bool.{true, false, ◌&&◌, and-true}
 use mathlib.Core.List.{List}
-use lib.Dec.{eqb, eqb→eq}
+use lib.Dec.{eqb}
 use lib.ListN.{length}
-use borrow.Author.Tests.{eq-eqb, ne_eqb}
 use Rattle.model.specs.Cxl0.{Value, event}
 use Rattle.model.specs.OneLocation.{clears_site, enabled_at, effect}
 use Rattle.model.specs.Meaning.{meant}
-use Rattle.model.proofs.Tests.{by_test, ne_test, T→true, true→T, and_l, and_r}
+use Rattle.std.specs.Prelude.{Option, None, Some}
 use Rattle.model.specs.declared.Event as declared
 use Rattle.entries.specs.Entries.{site_meant, short_of}
 use Rattle.entries.specs.declared.Site.{Site}
@@ -26,13 +25,19 @@ use Rattle.scratch.proofs.Frames.{only_none, only_then, only_wider}
 use Rattle.scratch.proofs.Events.{meant_read}
 use Rattle.scratch.proofs.StepArea.{struct_kept, event_kept}
 use Rattle.levels.specs.Tasks.{accepting}
+use Rattle.levels.specs.declared.Closing.{Closing}
+use Rattle.levels.specs.declared.Closing.TheVariants.{Open}
+use Rattle.segments.specs.Costs.{met}
 use Rattle.segments.specs.Words.{SegmentFits, SegmentPut}
 use Rattle.segments.specs.Segments.{Accepts, Closes, final, ended}
 use Rattle.segments.specs.declared.words.Segment.{Segment}
 use Rattle.segments.specs.declared.words.Block.{Block}
 use Rattle.walking.specs.Acting.{Acts}
-use Rattle.blocks.specs.Splitting.{kind_of, closing_of, Splittable, KnownEnd, Split}
+use Rattle.blocks.specs.Splitting.{kind_of, ends_block, closing_of, forced_of, Splittable, KnownEnd, Split}
 use Rattle.blocks.specs.declared.splitting.Place.{Place}
+use Rattle.blocks.specs.declared.splitting.Kind.{Kind}
+use Rattle.blocks.specs.declared.splitting.Kind.TheVariants.{Inside, Store, ReadStore}
+use Rattle.blocks.specs.declared.splitting.Kind.TheVariants.{MemoryStore, ReadMemoryStore, OtherRead}
 use Rattle.blocks.proofs.EventKinds.{read_of, asks_kind, store_leads, read_value}
 use Rattle.blocks.proofs.Cutting.{NONE, Alike, Cut, Cuts, AllPut, cuts_none, cuts_inside, cuts_reset, all_put}
 use Rattle.blocks.proofs.Cutting.{cuts_next, segmented}
@@ -40,7 +45,7 @@ use Rattle.blocks.proofs.Cutting.{cuts_next, segmented}
 -- The segment that is open at the place.
 abbrev pub opened : Place → ℕ → Segment
 opened p k =
-    record { copy = p.copy; first = p.gap; end = k; code = p.code; closing = 0; reset = NONE }
+    record { copy = p.copy; first = p.gap; end = k; code = p.code; closing = Open; reset = NONE }
 
 -- The segment that is open at gap t after a store.
 abbrev pub opens : Acted → (t k : ℕ) → Segment
@@ -50,12 +55,12 @@ opens made t k =
       first = t;
       end = k;
       code = made.entry.sharers;
-      closing = 0;
+      closing = Open;
       reset = NONE;
     }
 
 -- The open segment s as an event closes it at gap t.
-abbrev pub closed : Segment → (t closing : ℕ) → Segment
+abbrev pub closed : Segment → ℕ → Closing → Segment
 closed s t closing =
     record { copy = s.copy; first = s.first; end = t; code = s.code; closing = closing; reset = s.reset }
 
@@ -66,16 +71,25 @@ pub record Splitting (site : Site) (k : ℕ) (w₀ : List ℕ) (s₀ : Segment) 
   pub frame : OnlyIn SEGMENTS LOG w₀ w
   pub cuts : Cuts (site_meant site) s₀ w l s t
   pub end : s.end ≡ k
-  pub closing : s.closing ≡ 0
+  pub closing : s.closing ≡ Open
 
--- How a segment closes fits two bits.
-pub closing_fits : (kind : ℕ) → closing_of kind < 4
-closing_fits kind = go (eqb kind 5) (eqb kind 2 || eqb kind 4)
-  where
-    go : (other same : Bool) → cond other 2 (cond same 1 0) < 4
-    go true same = omega arith
-    go false true = omega arith
-    go false false = omega arith
+-- An event that does not end a block asks nothing of memory.
+goes_on : (kind : Kind) (v : Value) → ends_block kind ≡ false → forced_of kind v ≡ None
+goes_on Inside v h = refl
+goes_on Store v h = refl
+goes_on ReadStore v h = refl
+goes_on MemoryStore v h = cc
+goes_on ReadMemoryStore v h = cc
+goes_on OtherRead v h = cc
+
+-- Only a read of another value asks something of memory.
+forced_same : (kind : Kind) {v v' : Value} → (kind ≡ OtherRead → v ≡ v') → forced_of kind v ≡ forced_of kind v'
+forced_same Inside h = refl
+forced_same Store h = refl
+forced_same ReadStore h = refl
+forced_same MemoryStore h = refl
+forced_same ReadMemoryStore h = refl
+forced_same OtherRead h = ap Some (h refl)
 
 module _ {site : Site} {p : Place} {k : ℕ} {w₀ : List ℕ} (start : Splittable site p k w₀) where
   abbrev s₀ : Segment
@@ -105,14 +119,13 @@ module _ {site : Site} {p : Place} {k : ℕ} {w₀ : List ℕ} (start : Splittab
     pub number : l ≤ MOST
     number = omega (arith, at.cuts.few, at.most, start.few)
 
-    pub fits_closed : (closing : ℕ) → closing < 4 → SegmentFits (closed s t closing)
-    fits_closed closing h =
+    pub fits_closed : (closing : Closing) → SegmentFits (closed s t closing)
+    fits_closed closing =
         let g = at.cuts.grown in
         record {
           first = omega (arith, g.order, at.most, start.few);
           end = omega (arith, at.most, start.few);
           code = g.code;
-          closing = h;
           reset = ⊎_elim (λ e. rw e (omega arith)) (λ r. omega (arith, r.1, at.most, start.few)) g.resets;
         }
 
@@ -125,8 +138,8 @@ module _ {site : Site} {p : Place} {k : ℕ} {w₀ : List ℕ} (start : Splittab
       pub fits_open : SegmentFits s
       fits_open =
           let end : t ≡ s.end = here ∙ sym at.end in
-          let closing : 0 ≡ s.closing = sym at.closing in
-          subst SegmentFits (λ i. closed s (end i) (closing i)) (fits_closed 0 (omega arith))
+          let closing : Open ≡ s.closing = sym at.closing in
+          subst SegmentFits (λ i. closed s (end i) (closing i)) (fits_closed Open)
 
     -- ---- a segment is put
 
@@ -163,9 +176,9 @@ module _ {site : Site} {p : Place} {k : ℕ} {w₀ : List ℕ} (start : Splittab
 
     -- The events end with the open segment.
     pub split_end : {w' : List ℕ} → k ≤ t → SegmentPut w l s w'
-        → Split site p k w₀ (record { count = l + 1; end = k; forced = false; value = 0 }) w'
+        → Split site p k w₀ (record { count = l + 1; end = k; forced = None }) w'
     split_end {w'} over put =
-        let b : Block = record { count = l + 1; end = k; forced = false; value = 0 } in
+        let b : Block = record { count = l + 1; end = k; forced = None } in
         let there : s.end ≡ t = omega (arith, at.end, at.most) in
         split_put put (record { first = refl; code = refl; copy = refl }) there refl b refl at.most start.before
         (le_refl k)
@@ -174,7 +187,7 @@ module _ {site : Site} {p : Place} {k : ℕ} {w₀ : List ℕ} (start : Splittab
 
     -- ---- an event
 
-    module _ (more : t < k) {e : declared.Event} (read : e ≡ struct_in w t) {kind : ℕ}
+    module _ (more : t < k) {e : declared.Event} (read : e ≡ struct_in w t) {kind : Kind}
         (is : kind ≡ kind_of s.copy (meant e)) where
       abbrev u : Value
       u = s.copy
@@ -189,32 +202,28 @@ module _ {site : Site} {p : Place} {k : ℕ} {w₀ : List ℕ} (start : Splittab
       known_event = rw read (known_in t more)
 
       -- It is inside the open segment, and not its first reset,
-      pub again_inside : kind ≡ 0 → (eqb s.reset NONE && clears_site (meant e) (site_meant site)) ≡ false
+      pub again_inside : kind ≡ Inside
+          → (s.reset ≢ NONE) ⊎ (clears_site (meant e) (site_meant site) ≡ false)
           → Splitting site k w₀ s₀ w l s (t + 1)
-      again_inside zero other =
-          let clears = clears_site (event_in w t) (site_meant site) in
-          let not_first : (s.reset ≢ NONE) ⊎ (clears ≡ false) =
-          by_test (eqb s.reset NONE)
-          (λ none. inr (rw (eq-eqb s.reset NONE (eqb→eq s.reset NONE none), means) at other))
-          (λ reset. inl (ne_test s.reset NONE reset))
+      again_inside inside other =
+          let not_first : (s.reset ≢ NONE) ⊎ (clears_site (event_in w t) (site_meant site) ≡ false) =
+          rw means at other
           in
           rw (add-one t)
           (record {
             most = more;
             frame = at.frame;
-            cuts = cuts_inside at.cuts (of_kind ∙ zero) not_first (omega (arith, start.few));
+            cuts = cuts_inside at.cuts (of_kind ∙ inside) not_first (omega (arith, start.few));
             end = at.end;
             closing = at.closing;
           })
 
       -- or its first reset,
-      pub again_reset : kind ≡ 0 → (eqb s.reset NONE && clears_site (meant e) (site_meant site)) ≡ true
+      pub again_reset : kind ≡ Inside → s.reset ≡ NONE → clears_site (meant e) (site_meant site) ≡ true
           → Splitting site k w₀ s₀ w l
           (record { copy = s.copy; first = s.first; end = s.end; code = s.code; closing = s.closing; reset = t })
           (t + 1)
-      again_reset zero both =
-          let clears = clears_site (meant e) (site_meant site) in
-          let none = eqb→eq s.reset NONE (and_l (eqb s.reset NONE) clears (true→T both)) in
+      again_reset inside none clears =
           let s' : Segment =
           record { copy = s.copy; first = s.first; end = s.end; code = s.code; closing = s.closing; reset = t }
           in
@@ -223,61 +232,54 @@ module _ {site : Site} {p : Place} {k : ℕ} {w₀ : List ℕ} (start : Splittab
             most = more;
             frame = at.frame;
             cuts =
-                cuts_reset at.cuts (of_kind ∙ zero) s' (record { first = refl; code = refl; copy = refl }) refl none
-                (rw (← means) (T→true (and_r (eqb s.reset NONE) clears (true→T both)))) (omega (arith, start.few));
+                cuts_reset at.cuts (of_kind ∙ inside) s' (record { first = refl; code = refl; copy = refl }) refl none
+                (rw (← means) clears) (omega (arith, start.few));
             end = at.end;
             closing = at.closing;
           })
 
       -- or it closes the open segment,
-      module _ (some : kind ≢ 0) {w' : List ℕ} (put : SegmentPut w l (closed s t (closing_of kind)) w') where
+      module _ (some : kind ≢ Inside) {w' : List ℕ} (put : SegmentPut w l (closed s t (closing_of kind)) w') where
         kept : event_in w' t ≡ event_in w t
         kept = event_kept put.frame (omega arith) t (omega (arith, start.few))
 
         asks_closed : (c m : ℕ)
             → enabled_at (site_meant site) (event (event_in w' t)) (state c u m)
-            ≡ (accepting (closing_of kind) (eqb m u) c && cond (eqb kind 5) (eqb m (read_of (event_in w t))) true)
+            ≡ (accepting (closing_of kind) (eqb m u) c && met (forced_of kind (read_of (event_in w t))) m)
         asks_closed c m =
             rw (kept, ← of_kind) (asks_kind (site_meant site) u (event_in w t) c m (rw (← of_kind) at some))
 
         -- Where it is a store, the state after it has the memory from before.
-        next_state : kind < 3 → (made : Acted)
+        next_state : ends_block kind ≡ false → (made : Acted)
             → short_of made.entry ≡ effect (site_meant site) (event (meant e)) (state 0 u 0) → (c m : ℕ)
             → effect (site_meant site) (event (event_in w' t)) (state c u m)
             ≡ state made.entry.sharers made.entry.copy m
         unfolding short_of
-        next_state few made leads c m =
+        next_state goes made leads c m =
             let k' = site_meant site in
             let after = sym (rw means at leads) in
             rw kept
-            (store_leads k' u (event_in w t) c m (rw (← of_kind) at some) (rw of_kind few)
+            (store_leads k' u (event_in w t) c m (rw (← of_kind) at some) (rw of_kind goes)
             ∙ λ i. state (after i).code (after i).copy m)
 
         -- Where it reads another value than that of the copies, that is the value of its struct.
-        asks_value : (m : ℕ)
-            → cond (eqb kind 5) (eqb m (read_of (event_in w t))) true ≡ cond (eqb kind 5) (eqb m e.value) true
-        asks_value m =
-            by_test (eqb kind 5)
-            (λ five.
-            let value : read_of (event_in w t)
-            ≡ e.value = rw (← means) (read_value e u (sym is ∙ eqb→eq kind 5 five)) in
-            rw value)
-            (λ other. rw (ne_eqb kind 5 (ne_test kind 5 other)))
+        asks_value : forced_of kind (read_of (event_in w t)) ≡ forced_of kind e.value
+        asks_value = forced_same kind (λ other. rw (← means) (read_value e u (sym is ∙ other)))
 
         -- with a store, after which the next segment begins,
-        pub again_store : kind < 3 → {made : Acted}
+        pub again_store : ends_block kind ≡ false → {made : Acted}
             → Acts site (meant e) u (record { code = 0; memory = 0; end = 0 }) made
             → Splitting site k w₀ s₀ w' (l + 1) (opens made (t + 1) k) (t + 1)
-        again_store few {made} acts =
+        again_store goes {made} acts =
             let s' = opens made (t + 1) k in
-            let not_read = ne_eqb kind 5 (λ e. absurd (omega arith)) in
+            let not_read = goes_on kind (read_of (event_in w t)) goes in
             let asked : (c m : ℕ)
             → enabled_at (site_meant site) (event (event_in w' t)) (state c u m)
             ≡ accepting (closing_of kind) (eqb m u) c =
             λ c m. asks_closed c m ∙ rw not_read (and-true _)
             in
             let cut : Cut (site_meant site) w' (closed s t (closing_of kind)) s' =
-            record { accepts = asked; next = add-one t; leads = next_state few made acts.leads }
+            record { accepts = asked; next = add-one t; leads = next_state goes made acts.leads }
             in
             let before = whole put (record { first = refl; code = refl; copy = refl }) refl refl in
             rw (add-one l)
@@ -291,14 +293,16 @@ module _ {site : Site} {p : Place} {k : ℕ} {w₀ : List ℕ} (start : Splittab
             }))
 
         -- or with an event after which the state is known.
-        pub split_known : 3 ≤ kind
-            → Split site p k w₀ (record { count = l + 1; end = t + 1; forced = eqb kind 5; value = e.value }) w'
+        pub split_known : ends_block kind ≡ true
+            → Split site p k w₀ (record { count = l + 1; end = t + 1; forced = forced_of kind e.value }) w'
         split_known last =
-            let b : Block = record { count = l + 1; end = t + 1; forced = eqb kind 5; value = e.value } in
+            let b : Block = record { count = l + 1; end = t + 1; forced = forced_of kind e.value } in
             let accepts : Accepts (site_meant site) w' b (closed s t (closing_of kind)) true =
             record {
               enabled =
-                  λ c m. asks_closed c m ∙ ap (◌&&◌ (accepting (closing_of kind) (eqb m u) c)) (asks_value m);
+                  λ c m.
+                  asks_closed c m
+                  ∙ ap (λ (f : Option Value). accepting (closing_of kind) (eqb m u) c && met f m) asks_value;
             }
             in
             let before : kind_of u (event_in w₀ t) ≡ kind =
@@ -313,5 +317,5 @@ module _ {site : Site} {p : Place} {k : ℕ} {w₀ : List ℕ} (start : Splittab
               sym (add-one l),
               rw put.stored (sym (add-one t)),
               rw (put.stored, before) last,
-              rw (put.stored, before) (λ five. (eq-eqb kind 5 five, same_value)),
+              rw (put.stored, before) (λ other. rw other (ap Some same_value)),
             ))

@@ -8,6 +8,7 @@ use mathlib.Core.Logic.{◌≢◌}
 use mathlib.Core.Bool.{not}
 use mathlib.Core.List.{List, [], ◌∷◌}
 use lib.Dec.{eqb}
+use Rattle.std.specs.Prelude.{None, Some}
 use Rattle.model.specs.Cxl0.{Machine, Value, Topology, Event}
 use Rattle.model.specs.Sharers.{has}
 use Rattle.model.specs.OneLocation as one
@@ -31,7 +32,8 @@ use Rattle.segments.proofs.Kept.{Kept, kept_events, kept_cost}
 use Rattle.walking.specs.Trails.{step_at}
 use Rattle.blocks.specs.declared.treading.Stand.{Stand}
 use Rattle.blocks.specs.Toward.{Toward, Walked, can_step, after_step, Still}
-use Rattle.blocks.specs.Treading.{STAY, Payable, Standing, stood, Chosen, Takeable, Taken}
+use Rattle.blocks.specs.declared.treading.Silent.{Silent}
+use Rattle.blocks.specs.Treading.{STAY, number_of, Payable, Standing, stood, Takes, Chosen, Takeable, Taken}
 use Rattle.blocks.proofs.Towards.{toward_step, all_ahead, walked_step, walked_nothing, walked_area, walked_then}
 use Rattle.blocks.proofs.Choosing.{after_write, after_move, can_move, can_copy, step_lowers}
 use Rattle.blocks.proofs.Keeping.{kept_both, tasked_before, payable_same}
@@ -70,9 +72,12 @@ ready_later h few r =
 
 -- ---- the step
 
-module _ {site : Site} {b : Block} {l : ℕ} {m : Value} {q : Task} {t : ℕ} {p : Stand} {w : List ℕ} {i : Machine}
-    (task : Payable site b l m q w) (stands : Standing site b l m q t p w) (chosen : Chosen site b l t p w i)
-    (takes : i < STAY) where
+module _ {site : Site} {b : Block} {l : ℕ} {m : Value} {q : Task} {t : ℕ} {p : Stand} {w : List ℕ} {step : Silent}
+    (task : Payable site b l m q w) (stands : Standing site b l m q t p w)
+    (chosen : Chosen site b l t p w (Some step)) where
+  abbrev i : Machine
+  i = number_of step
+
   abbrev k : one.Site
   k = site_meant site
 
@@ -82,19 +87,22 @@ module _ {site : Site} {b : Block} {l : ℕ} {m : Value} {q : Task} {t : ℕ} {p
   abbrev here : Local
   here = stood w l p
 
+  taking : Takes site b l t p w step
+  taking = chosen.takes
+
   some : 0 < p.steps
-  some = (chosen.takes takes).0
+  some = taking.some
 
   can : can_step k i here
-  can = (chosen.takes takes).1
+  can = taking.can
 
   -- It can be taken.
-  pub takeable : Takeable site q t i p w
+  pub takeable : Takeable site q t step p w
   takeable =
       record {
         ready = ready_later stands.from (rw task.end stands.to) task.ready;
         owner = task.owner;
-        takes = takes;
+        takes = taking.is;
         fits = stands.fits;
         some = some;
         finite = stands.finite;
@@ -122,7 +130,7 @@ module _ {site : Site} {b : Block} {l : ℕ} {m : Value} {q : Task} {t : ℕ} {p
             λ pays.
                 let less = step_lowers task stands i can x (rw (← leads) pays) in
                 omega (arith, fewer),
-            λ few. rw leads (pays_more k (chosen.takes takes).2 (omega (arith, fewer))),
+            λ few. rw leads (pays_more k taking.pays (omega (arith, fewer))),
           );
         }
 
@@ -167,7 +175,7 @@ module _ {site : Site} {b : Block} {l : ℕ} {m : Value} {q : Task} {t : ℕ} {p
         (all_ahead x w b.end t task.here)
         can
         (λ pays. omega (arith, (stands.costs.exact p'.steps (omega (arith, stands.finite, fewer))).0 pays, fewer))
-        (pays_more k (chosen.takes takes).2 (omega (arith, fewer)))
+        (pays_more k taking.pays (omega (arith, fewer)))
         (λ j less can_too. chosen.least j less can_too p'.steps (omega (arith, fewer)))
 
     -- and is noted.
@@ -221,25 +229,26 @@ module _ {site : Site} {b : Block} {l : ℕ} {m : Value} {q : Task} {f t : ℕ} 
       }
 
   -- One step more.
-  pub underway_step : {i : Machine} {p'' : Stand} {w'' : List ℕ} → site.location.0 < 256
-      → Chosen site b l t p' w' i → i < STAY → Taken site (segment_in w l).copy q t i p' w' p'' w''
+  pub underway_step : {step : Silent} {p'' : Stand} {w'' : List ℕ} → site.location.0 < 256
+      → Chosen site b l t p' w' (Some step)
+      → Taken site (segment_in w l).copy q t (number_of step) p' w' p'' w''
       → Underway site b l m q f t p w p'' w''
-  underway_step small chosen takes taken =
+  underway_step small chosen taken =
       let took = rw (← kept_under.segments l) at taken in
       let task = under.payable in
       let stands = under.standing in
       underway_then taken.frame
-      (taken_standing task stands chosen takes took)
-      (taken_walked task stands chosen takes took small)
+      (taken_standing task stands chosen took)
+      (taken_walked task stands chosen took small)
 
   -- No silent step is worth taking where none is chosen.
-  pub underway_still : {i : Machine} → Chosen site b l t p' w' i → STAY ≤ i
+  pub underway_still : Chosen site b l t p' w' None
       → Still (site_meant site) (events_from w t (b.end - t)) (stood w l p') p'.steps
-  underway_still {i} chosen stays =
+  underway_still chosen =
       let here = stood w' l p' in
       let fits = under.standing.fits in
       rw (← events_under t, ← kept_under.segments l)
-      (λ j can. chosen.least j (omega (arith, can_six (site_meant site) j here fits can)) can)
+      (λ j can. chosen.least j (can_six (site_meant site) j here fits can) can)
 
 -- At first there are none.
 pub underway_none : {site : Site} {b : Block} {l : ℕ} {m : Value} {q : Task} {t : ℕ} {p : Stand} {w : List ℕ}

@@ -6,10 +6,9 @@ use mathlib.Core.Path.{◌≡◌, sym}
 use mathlib.Core.List.{List}
 use Rattle.model.specs.Cxl0.{Value}
 use Rattle.entries.specs.Entries.{site_meant}
-use Rattle.entries.specs.declared.Acted.{Acted}
 use Rattle.entries.specs.declared.Site.{Site}
 use Rattle.scratch.specs.Layout.{STEPS, BACKS, OnlyIn}
-use Rattle.scratch.specs.Words.{event_in, events_from}
+use Rattle.scratch.specs.Words.{events_from}
 use Rattle.scratch.proofs.Frames.{only_none, only_then, only_wider}
 use Rattle.levels.specs.Tasks.{Built}
 use Rattle.levels.specs.declared.Task.{Task}
@@ -17,14 +16,13 @@ use Rattle.segments.specs.Words.{segment_in}
 use Rattle.segments.specs.declared.words.Block.{Block}
 use Rattle.segments.proofs.Kept.{Kept, kept_events, kept_cost}
 use Rattle.segments.proofs.Links.{memory_first}
-use Rattle.walking.specs.Acting.{Acts}
 use Rattle.blocks.specs.declared.treading.Stand.{Stand}
 use Rattle.blocks.specs.Toward.{Still}
-use Rattle.blocks.specs.Treading.{Payable, Standing, stood, Paid, Treadable, Trodden}
+use Rattle.blocks.specs.Treading.{Payable, Standing, stood, Paid, Over, Treadable, Trodden}
 use Rattle.blocks.proofs.Towards.{walked_area}
 use Rattle.blocks.proofs.Keeping.{only_back, kept_both, payable_same, tasked_before}
 use Rattle.blocks.proofs.Stepping.{Underway, underway_none, underway_then, kept_under, events_under}
-use Rattle.blocks.proofs.Passing.{point_of, stand_of, passed_standing, passed_walked}
+use Rattle.blocks.proofs.Passing.{passed_standing, passed_walked}
 
 -- ---- a gap and its event
 
@@ -40,18 +38,17 @@ module _ {site : Site} {b : Block} {l : ℕ} {m : Value} {q : Task} {f t : ℕ} 
     still_paid = rw (← events_under low under t, ← (kept_under low under).segments l) paid.still
 
     -- The event after it comes next.
-    pub underway_event : {made : Acted} → t < (segment_in w l).end
-        → Acts site (event_in w'' t) (segment_in w l).copy (point_of p'') made
-        → Underway site b l m q f (suc t) p w (stand_of made p'') w''
-    underway_event inside acted =
+    pub underway_event : {on : Stand} → t < (segment_in w l).end → Over site t (segment_in w l).copy p'' w'' on
+        → Underway site b l m q f (suc t) p w on w''
+    underway_event {on} inside over =
         let now = underway_paid in
         let kept = kept_under low now in
         let still = rw (← events_under low now t, ← kept.segments l) at still_paid in
         let within = rw (← kept.segments l) at inside in
-        let acted_now = rw (← kept.segments l) at acted in
-        underway_then low now (only_none _ BACKS w'')
-        (passed_standing now.payable now.standing within still acted_now)
-        (passed_walked now.payable now.standing within still acted_now)
+        let over_now = rw (← kept.segments l) at over in
+        underway_then low now (only_none p''.end BACKS w'')
+        (passed_standing now.payable now.standing within still over_now)
+        (passed_walked now.payable now.standing within still over_now)
 
 -- ---- a segment
 

@@ -2,6 +2,7 @@
 -- then the words noted are the shortest schedule.
 use Prim.Native.Nat.{ℕ, zero-le, ◌+◌, ◌≤◌, ◌<◌}
 use native.Mathlib.Nat.{le_refl, le_trans}
+use native.Mathlib.Decide.{dec_le}
 use native.Mathlib.Omega.{arith}
 use mathlib.Core.Path.{◌≡◌, refl}
 use mathlib.Core.List.Memᴰ
@@ -82,6 +83,16 @@ module _ {site : Site} {b : Block} {p : Stand} {w₀ : List ℕ} (start : Ahead 
           pays = rw (events next.gap) at next.pays;
           ahead = next.ahead;
         }
+
+    -- Behind the last segment nothing is left to pay.
+    pub behind_all : b.count ≤ l → at.steps ≤ 0
+    behind_all last =
+        elim (dec_le at.steps 0) [
+          | yes none ↦ none
+          | no some ↦
+              let more : 0 < at.steps = omega arith in
+              absurd (omega (arith, (come.ahead more).0.numbered.number))
+        ]
 
     -- With nothing left to pay, the rest of the block has no step.
     pub through : at.steps ≤ 0 → Through site b p w₀ at.end w

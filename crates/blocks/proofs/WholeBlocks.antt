@@ -4,7 +4,8 @@ use native.Mathlib.Nat.{le_refl}
 use native.Mathlib.Omega.{arith}
 use mathlib.Core.Path.{◌≡◌, refl, sym, ap, ◌∙◌, subst}
 use mathlib.Core.Logic.{◌≢◌}
-use mathlib.Core.Bool.{true, false, true≢false}
+use mathlib.Core.Bool.{true}
+use Rattle.std.specs.Prelude.{Option, None, Some, unwrap_or}
 use mathlib.Core.List.{List, ◌++◌, map, Memᴰ}
 use lib.Dec.{T}
 use Rattle.model.specs.Cxl0.{Location, Value, Topology, Event, event}
@@ -30,7 +31,8 @@ use Rattle.segments.specs.Costs.{rest_from}
 use Rattle.segments.specs.Segments.{Costs}
 use Rattle.segments.specs.Weighing.{Restable}
 use Rattle.segments.specs.declared.words.Block.{Block}
-use Rattle.blocks.specs.Splitting.{kind_of, Split}
+use Rattle.blocks.specs.Splitting.{kind_of, ends_block, Split}
+use Rattle.blocks.specs.declared.splitting.Kind.TheVariants.{OtherRead}
 use Rattle.blocks.specs.Blocks.{between, Laid, Priced, Ahead, Through, last_in, Closable, Closed}
 use Rattle.blocks.specs.Blocks.{Blockable, Crossed, Blocked}
 use Rattle.blocks.specs.declared.treading.Stand.{Stand}
@@ -152,12 +154,12 @@ module _ {site : Site} {p : Place} {k : ℕ} {w : List ℕ} (start : Blockable s
         (first.front, first.begins.of, first.begins.own, first.begins.runs) in
         absurd (omega (arith, few_here sys d paid.0 paid.1))
 
-    pub none : FAR ≤ steps → Blocked site p k w (record { found = false; place = p }) w₂
+    pub none : FAR ≤ steps → Blocked site p k w None w₂
     none far =
         record {
           frame = only_wider frame_priced (omega (arith, start.space)) (le_refl _);
-          crossed = λ found. absurd (true≢false (sym found));
-          none = λ found. no_run far;
+          crossed = tt;
+          none = no_run far;
         }
 
     -- ---- the walk
@@ -202,7 +204,7 @@ module _ {site : Site} {p : Place} {k : ℕ} {w : List ℕ} (start : Blockable s
       blocked : (r : Place) → r.gap ≡ b.end → r.end ≡ end → r.code < 64
           → (b.end < k → (sys : Topology) → Describes sys site
           → KnownAfter sys x (between w p.gap b.end) begin (state r.code r.copy r.memory))
-          → Blocked site p k w (record { found = true; place = r }) w₃
+          → Blocked site p k w (Some r) w₃
       blocked r gap ends fits known =
           let crossed : Crossed site p k w r w₃ = record {
             on = rw gap cut.longer;
@@ -216,23 +218,23 @@ module _ {site : Site} {p : Place} {k : ℕ} {w : List ℕ} (start : Blockable s
           } in
           record {
             frame = frame_through;
-            crossed = λ found. crossed;
-            none = λ found. absurd (true≢false found);
+            crossed = crossed;
+            none = tt;
           }
 
       -- The block ends with the events,
       pub blocked_end : b.end ≡ k
           → Blocked site p k w
-          (record { found = true; place = record { gap = k; code = 0; copy = 0; memory = 0; end = end } }) w₃
+          (Some (record { gap = k; code = 0; copy = 0; memory = 0; end = end })) w₃
       blocked_end over =
           blocked (record { gap = k; code = 0; copy = 0; memory = 0; end = end }) (sym over) refl (omega arith)
           (λ less. absurd (omega arith))
 
       -- or with an event after which the state is known.
       module _ (last : ℕ) (count : suc last ≡ b.count) (ends : suc (segment_in w₁ last).end ≡ b.end)
-          (known : 3 ≤ kind_of (segment_in w₁ last).copy (event_in w (segment_in w₁ last).end))
-          (value : kind_of (segment_in w₁ last).copy (event_in w (segment_in w₁ last).end) ≡ 5
-          → (b.forced ≡ true) × (b.value ≡ (struct_in w (segment_in w₁ last).end).value)) where
+          (known : ends_block (kind_of (segment_in w₁ last).copy (event_in w (segment_in w₁ last).end)) ≡ true)
+          (value : kind_of (segment_in w₁ last).copy (event_in w (segment_in w₁ last).end) ≡ OtherRead
+          → b.forced ≡ Some (struct_in w (segment_in w₁ last).end).value) where
         abbrev t : ℕ
         t = (segment_in w₁ last).end
 
@@ -268,7 +270,7 @@ module _ {site : Site} {p : Place} {k : ℕ} {w : List ℕ} (start : Blockable s
 
         -- What event j of the area leads to from no copy, with the block's value in memory.
         abbrev Led : List ℕ → (j : ℕ) → Value → Local
-        Led v j c = effect here (event (event_in v j)) (state 0 c b.value)
+        Led v j c = effect here (event (event_in v j)) (state 0 c (unwrap_or b.forced 0))
 
         -- What the place says is the state after every run.
         known_place : {r : Place} → Closed site b end w₃ r → (sys : Topology) → Describes sys site
@@ -277,8 +279,10 @@ module _ {site : Site} {p : Place} {k : ℕ} {w : List ℕ} (start : Blockable s
             let same = priced.segments last in
             let event₂ = event_same only_events t near in
             let means = meant_read w t (struct_in w t) refl in
-            let reads : kind_of u (event_in w t) ≡ 5 → b.value ≡ read_of (event_in w t) =
-            λ five. (value five).1 ∙ sym (rw means at (read_value (struct_in w t) u (rw means five)))
+            let reads : kind_of u (event_in w t) ≡ OtherRead → unwrap_or b.forced 0 ≡ read_of (event_in w t) =
+            λ other.
+            ap (λ (f : Option Value). unwrap_or f 0) (value other)
+            ∙ sym (rw means at (read_value (struct_in w t) u (rw means other)))
             in
             let behind =
             known_behind priced.costed.laid.segmented x concerned {last = last} count (rw same ends)
@@ -295,7 +299,7 @@ module _ {site : Site} {p : Place} {k : ℕ} {w : List ℕ} (start : Blockable s
           let l = cut.last (omega (arith, cut.most)) in closable_last l.0 l.1 l.2 l.3 l.4
 
       pub blocked_known : b.end ≢ k → {r : Place} → Closed site b end w₃ r
-          → Blocked site p k w (record { found = true; place = r }) w₃
+          → Blocked site p k w (Some r) w₃
       blocked_known more {r} closed =
           let l = cut.last (omega (arith, cut.most)) in
           blocked r closed.gap closed.ends closed.fits

@@ -1,5 +1,6 @@
 -- The shortest schedule of a block: what finding it asks and leaves.
-use Rattle.std.specs.Prelude.{ℕ, suc, ◌+◌, ◌-◌, ◌*◌, ◌≤◌, ◌<◌, ◌≡◌, true, false, List, map, T, length}
+use Rattle.std.specs.Prelude.{ℕ, suc, ◌+◌, ◌-◌, ◌*◌, ◌≤◌, ◌<◌, ◌≡◌, List, map, T, length}
+use Rattle.std.specs.Prelude.{Option, IfSome, IfNone, unwrap_or}
 use Rattle.model.specs.Cxl0.{Value, Topology, Event, event}
 use Rattle.model.specs.OneLocation.{Local, event_at, effect, HasRunAt}
 use Rattle.model.specs.ShortestAt.{ShortestFrom, KnownAfter}
@@ -24,7 +25,6 @@ use Rattle.blocks.specs.Treading.{Payable, stood}
 use Rattle.blocks.specs.Splitting.{Splittable}
 use Rattle.blocks.specs.declared.treading.Stand.{Stand}
 use Rattle.blocks.specs.declared.splitting.Place.{Place}
-use Rattle.blocks.specs.declared.blocks.Onto.{Onto}
 
 -- The events from gap t to gap n.
 abbrev pub between : List ℕ → ℕ → ℕ → List Event
@@ -64,23 +64,6 @@ pub record Numbered (site : Site) (b : Block) (l : ℕ) (w : List ℕ) : Type 0 
 pub record Planned (site : Site) (b : Block) (l : ℕ) (m : Value) (w : List ℕ) (q : Task) (w' : List ℕ) : Type 0 where
   pub frame : OnlyIn BACKS SEGMENTS w w'
   pub payable : Payable site b l m q w'
-
--- The event that closes segment s is known, and the walk stands before it.
-pub record Actable (site : Site) (s : Segment) (p : Stand) (w : List ℕ) : Type 0 where
-  pub room : WORDS ≤ length w
-  pub owner : OneToSix site.owner.0
-  pub inside : s.end < MOST
-  pub known : Known (struct_in w s.end)
-  pub fits : p.code < 64
-
--- Where it stands after the event.
-pub record Over (site : Site) (s : Segment) (p : Stand) (w : List ℕ) (r : Stand) : Type 0 where
-  pub code : r.code
-      ≡ (effect (site_meant site) (event (event_in w s.end)) (state p.code s.copy p.memory)).code
-  pub memory : r.memory
-      ≡ (effect (site_meant site) (event (event_in w s.end)) (state p.code s.copy p.memory)).memory
-  pub end : r.end ≡ p.end
-  pub steps : r.steps ≡ p.steps
 
 -- ---- the walk through all segments
 
@@ -135,7 +118,8 @@ pub record Closed (site : Site) (b : Block) (end : ℕ) (w : List ℕ) (r : Plac
   pub ends : r.end ≡ end
   pub fits : r.code < 64
   pub leads : state r.code r.copy r.memory
-      ≡ effect (site_meant site) (event (event_in w (last_in w b).end)) (state 0 (last_in w b).copy b.value)
+      ≡ effect (site_meant site) (event (event_in w (last_in w b).end))
+      (state 0 (last_in w b).copy (unwrap_or b.forced 0))
 
 -- ---- a block
 
@@ -161,9 +145,10 @@ pub record Crossed (site : Site) (p : Place) (k : ℕ) (w : List ℕ) (r : Place
       → KnownAfter sys site.location.0 (between w p.gap r.gap)
       (state p.code p.copy p.memory) (state r.code r.copy r.memory)
 
--- So it is if a run was found; else the events from p on, or some first ones of them, have none.
-pub record Blocked (site : Site) (p : Place) (k : ℕ) (w : List ℕ) (r : Onto) (w' : List ℕ) : Type 0 where
+-- So it is with the place that was found; if none was, the events from p on, or some first ones of them, have no run.
+pub record Blocked (site : Site) (p : Place) (k : ℕ) (w : List ℕ) (r : Option Place) (w' : List ℕ) : Type 0 where
   pub frame : OnlyIn p.end LOG w w'
-  pub crossed : r.found ≡ true → Crossed site p k w r.place w'
-  pub none : r.found ≡ false → (sys : Topology) → Describes sys site
-      → ¬ HasRunAt sys site.location.0 (between w p.gap k) (state p.code p.copy p.memory)
+  pub crossed : IfSome r (λ place. Crossed site p k w place w')
+  pub none : IfNone r
+      ((sys : Topology) → Describes sys site
+      → ¬ HasRunAt sys site.location.0 (between w p.gap k) (state p.code p.copy p.memory))

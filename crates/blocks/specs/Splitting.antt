@@ -1,36 +1,67 @@
 -- The events of a block as segments: what an event is to a segment, and what splitting leaves.
-use Rattle.std.specs.Prelude.{ℕ, suc, ◌≤◌, ◌<◌, ◌≡◌, true, cond, ◌||◌, List, eqb, length}
+use Rattle.std.specs.Prelude.{ℕ, suc, ◌≤◌, ◌<◌, ◌≡◌, Bool, true, false, cond, Option, None, Some, List, eqb, length}
 use Rattle.model.specs.Cxl0.{Value, Event, LStore, RStore, MStore, Load, LFlush, RFlush, Crash, SetCrash, RMW, L, R, M}
 use Rattle.masks.specs.Sets.{OneToSix}
 use Rattle.entries.specs.Entries.{site_meant}
 use Rattle.entries.specs.declared.Site.{Site}
 use Rattle.rows.specs.Sites.{Known}
+use Rattle.scratch.specs.declared.Waypoint.{Waypoint}
 use Rattle.scratch.specs.Layout.{WORDS, MOST, SEGMENTS, LOG, OnlyIn}
 use Rattle.scratch.specs.Words.{event_in, struct_in}
 use Rattle.segments.specs.Words.{segment_in}
 use Rattle.segments.specs.Segments.{Segmented}
 use Rattle.segments.specs.declared.words.Block.{Block}
+use Rattle.levels.specs.declared.Closing.{Closing}
+use Rattle.levels.specs.declared.Closing.TheVariants.{Open, Same, Other}
 use Rattle.blocks.specs.declared.splitting.Place.{Place}
+use Rattle.blocks.specs.declared.splitting.Kind.{Kind}
+use Rattle.blocks.specs.declared.splitting.Kind.TheVariants.{Inside, Store, ReadStore}
+use Rattle.blocks.specs.declared.splitting.Kind.TheVariants.{MemoryStore, ReadMemoryStore, OtherRead}
 
--- What an event is to a segment whose copies have the value u. 0: it stands inside. 1: a store, with which the next
--- segment begins; 2: one that first reads u. After the others the state is known: 3: an MStore; 4: one that first reads
--- u; 5: a read of another value, which must come from memory.
-unfoldable pub kind_of : Value → Event → ℕ
-kind_of u (LStore i x v) = 1
-kind_of u (RStore i x v) = 1
-kind_of u (MStore i x v) = 3
-kind_of u (Load i x v) = cond (eqb v u) 0 5
-kind_of u (LFlush i x) = 0
-kind_of u (RFlush i x) = 0
-kind_of u (Crash i) = 0
-kind_of u (SetCrash set) = 0
-kind_of u (RMW L i x v w) = cond (eqb v u) 2 5
-kind_of u (RMW R i x v w) = cond (eqb v u) 2 5
-kind_of u (RMW M i x v w) = cond (eqb v u) 4 5
+-- The waypoint at a place.
+abbrev pub waypoint_at : Place → Waypoint
+waypoint_at p = record { code = p.code; memory = p.memory; end = p.end }
 
--- How a segment closes with an event of a kind from 1 on.
-abbrev pub closing_of : ℕ → ℕ
-closing_of kind = cond (eqb kind 5) 2 (cond (eqb kind 2 || eqb kind 4) 1 0)
+-- What an event is to a segment whose copies have the value u.
+unfoldable pub kind_of : Value → Event → Kind
+kind_of u (LStore i x v) = Store
+kind_of u (RStore i x v) = Store
+kind_of u (MStore i x v) = MemoryStore
+kind_of u (Load i x v) = cond (eqb v u) Inside OtherRead
+kind_of u (LFlush i x) = Inside
+kind_of u (RFlush i x) = Inside
+kind_of u (Crash i) = Inside
+kind_of u (SetCrash set) = Inside
+kind_of u (RMW L i x v w) = cond (eqb v u) ReadStore OtherRead
+kind_of u (RMW R i x v w) = cond (eqb v u) ReadStore OtherRead
+kind_of u (RMW M i x v w) = cond (eqb v u) ReadMemoryStore OtherRead
+
+-- After an event of the kind the state is known, and its block ends with it.
+abbrev pub ends_block : Kind → Bool
+ends_block Inside = false
+ends_block Store = false
+ends_block ReadStore = false
+ends_block MemoryStore = true
+ends_block ReadMemoryStore = true
+ends_block OtherRead = true
+
+-- How a segment closes with an event of the kind.
+abbrev pub closing_of : Kind → Closing
+closing_of Inside = Open
+closing_of Store = Open
+closing_of ReadStore = Same
+closing_of MemoryStore = Open
+closing_of ReadMemoryStore = Same
+closing_of OtherRead = Other
+
+-- The value that memory must have for an event of the kind that reads the value v.
+abbrev pub forced_of : Kind → Value → Option Value
+forced_of Inside v = None
+forced_of Store v = None
+forced_of ReadStore v = None
+forced_of MemoryStore v = None
+forced_of ReadMemoryStore v = None
+forced_of OtherRead v = Some v
 
 -- The area has k known events, and the walk stands before one of them.
 pub record Splittable (site : Site) (p : Place) (k : ℕ) (w : List ℕ) : Type 0 where
@@ -48,9 +79,9 @@ KnownEnd w b w' =
     (last : ℕ)
     × (suc last ≡ b.count)
     × (suc (segment_in w' last).end ≡ b.end)
-    × (3 ≤ kind_of (segment_in w' last).copy (event_in w (segment_in w' last).end))
-    × (kind_of (segment_in w' last).copy (event_in w (segment_in w' last).end) ≡ 5
-    → (b.forced ≡ true) × (b.value ≡ (struct_in w (segment_in w' last).end).value))
+    × (ends_block (kind_of (segment_in w' last).copy (event_in w (segment_in w' last).end)) ≡ true)
+    × (kind_of (segment_in w' last).copy (event_in w (segment_in w' last).end) ≡ OtherRead
+    → b.forced ≡ Some (struct_in w (segment_in w' last).end).value)
 
 -- The block begins at the place and ends with the first event after which the state is known, or with the events.
 pub record Split (site : Site) (p : Place) (k : ℕ) (w : List ℕ) (b : Block) (w' : List ℕ) : Type 0 where

@@ -1,15 +1,19 @@
 -- The walk through one segment: what it asks and leaves.
 use Rattle.std.specs.Prelude.{ℕ, suc, ◌+◌, ◌-◌, ◌≤◌, ◌<◌, ◌≡◌, ◌↔◌, ◌≢◌, not, ◌&&◌, List, [], ◌∷◌, T, eqb, length}
-use Rattle.model.specs.Cxl0.{Machine, Value}
+use Rattle.std.specs.Prelude.{Option, None, Some, IfSome}
+use Rattle.model.specs.Cxl0.{Machine, Value, event}
+use Rattle.model.specs.declared.Machine as machine
 use Rattle.model.specs.Sharers.{has}
-use Rattle.model.specs.OneLocation.{Local, event_at, moved}
+use Rattle.model.specs.OneLocation.{Local, event_at, effect, moved}
 use Rattle.model.specs.Paying.{Pays}
 use Rattle.masks.specs.Sets.{In, OneToSix}
 use Rattle.entries.specs.Entries.{site_meant}
 use Rattle.entries.specs.declared.Site.{Site}
 use Rattle.rows.specs.Rows.{state}
 use Rattle.scratch.specs.Layout.{WORDS, MOST, STEPS, WAYPOINTS, BACKS, OnlyIn}
-use Rattle.scratch.specs.Words.{event_in, events_from, words_at}
+use Rattle.rows.specs.Sites.{Known}
+use Rattle.scratch.specs.declared.Waypoint.{Waypoint}
+use Rattle.scratch.specs.Words.{event_in, struct_in, events_from, words_at}
 use Rattle.levels.specs.Stretches.{FAR, Stretch, Finishes}
 use Rattle.levels.specs.Tasks.{Ready, Tasked, Leveled}
 use Rattle.levels.specs.declared.Task.{Task}
@@ -19,18 +23,35 @@ use Rattle.segments.specs.declared.words.Block.{Block}
 use Rattle.walking.specs.Trails.{word_of}
 use Rattle.blocks.specs.Toward.{Walked, can_step, after_step, Still}
 use Rattle.blocks.specs.declared.treading.Stand.{Stand}
+use Rattle.blocks.specs.declared.treading.Silent.{Silent}
+use Rattle.blocks.specs.declared.treading.Silent.TheVariants.{WriteBack, Move}
 
--- What a call answers where there is no step to take.
+-- ---- silent steps
+
+-- The number of a silent step: 0 for a write-back, else the machine that moves.
+abbrev pub number_of : Silent → Machine
+number_of WriteBack = 0
+number_of (Move i) = i.0
+
+-- It is a write-back, or the move of one of the six machines.
+abbrev pub IsStep : Silent → Type 0
+IsStep WriteBack = Unit
+IsStep (Move i) = OneToSix i.0
+
+-- More than the number of any step: what stands for no step where the least one is asked for.
 abbrev pub STAY : ℕ
 STAY = 7
 
 -- ---- the least move
 
--- From code c, machine r is the least whose move to the owner k leads into the set, or STAY if there is none.
-pub record LeastMove (k : Machine) (c into r : ℕ) : Type 0 where
-  pub most : (1 ≤ r) × (r ≤ STAY)
-  pub moves : r < STAY → T (not (eqb r k) && has r c) × In (moved k r c) into
-  pub least : (j : Machine) → j < r → T (not (eqb j k) && has j c) → ¬ In (moved k j c) into
+abbrev pub mover_of : Option machine.Machine → ℕ
+mover_of (Some i) = i.0
+mover_of None = STAY
+
+-- From code c, machine r is the least whose move to the owner k leads into the set, if there is one.
+pub record LeastMove (k : Machine) (c into : ℕ) (r : Option machine.Machine) : Type 0 where
+  pub moves : IfSome r (λ i. OneToSix i.0 × T (not (eqb i.0 k) && has i.0 c) × In (moved k i.0 c) into)
+  pub least : (j : Machine) → j < mover_of r → T (not (eqb j k) && has j c) → ¬ In (moved k j c) into
 
 -- ---- the steps of a gap
 
@@ -68,13 +89,22 @@ pub record Standing (site : Site) (b : Block) (l : ℕ) (m : Value) (q : Task) (
 abbrev pub stood : List ℕ → ℕ → Stand → Local
 stood w l p = state p.code (segment_in w l).copy p.memory
 
--- The step to take: the least that leaves one step less to pay, or none.
-pub record Chosen (site : Site) (b : Block) (l t : ℕ) (p : Stand) (w : List ℕ) (r : ℕ) : Type 0 where
-  pub most : r ≤ STAY
-  pub takes : r < STAY → (0 < p.steps) × can_step (site_meant site) r (stood w l p)
-      × Pays (site_meant site) (events_from w t (b.end - t)) (after_step (site_meant site) r (stood w l p))
-      (p.steps - 1)
-  pub least : (j : Machine) → j < r → can_step (site_meant site) j (stood w l p)
+-- Step i leaves one step less to pay.
+pub record Takes (site : Site) (b : Block) (l t : ℕ) (p : Stand) (w : List ℕ) (i : Silent) : Type 0 where
+  pub is : IsStep i
+  pub some : 0 < p.steps
+  pub can : can_step (site_meant site) (number_of i) (stood w l p)
+  pub pays : Pays (site_meant site) (events_from w t (b.end - t))
+      (after_step (site_meant site) (number_of i) (stood w l p)) (p.steps - 1)
+
+abbrev pub choice_of : Option Silent → ℕ
+choice_of (Some i) = number_of i
+choice_of None = STAY
+
+-- The step to take: the least that leaves one step less to pay, if there is one.
+pub record Chosen (site : Site) (b : Block) (l t : ℕ) (p : Stand) (w : List ℕ) (r : Option Silent) : Type 0 where
+  pub takes : IfSome r (Takes site b l t p w)
+  pub least : (j : Machine) → j < choice_of r → can_step (site_meant site) j (stood w l p)
       → (y : ℕ) → suc y ≤ p.steps
       → ¬ Pays (site_meant site) (events_from w t (b.end - t)) (after_step (site_meant site) j (stood w l p)) y
 
@@ -86,10 +116,10 @@ pub record SteppedTo (site : Site) (copy : Value) (i : Machine) (p p' : Stand) :
   pub steps : suc p'.steps ≡ p.steps
 
 -- There is a step to pay, and room to note it.
-pub record Takeable (site : Site) (q : Task) (t : ℕ) (i : Machine) (p : Stand) (w : List ℕ) : Type 0 where
+pub record Takeable (site : Site) (q : Task) (t : ℕ) (i : Silent) (p : Stand) (w : List ℕ) : Type 0 where
   pub ready : Ready q t w
   pub owner : OneToSix site.owner.0
-  pub takes : i < STAY
+  pub takes : IsStep i
   pub fits : p.code < 64
   pub some : 0 < p.steps
   pub finite : p.steps < FAR
@@ -111,6 +141,28 @@ pub record Paid (site : Site) (b : Block) (l : ℕ) (m : Value) (q : Task) (t : 
   pub standing : Standing site b l m q t p' w'
   pub walked : Walked site b.end w t (stood w l p) p.end w' t (stood w l p') p'.end
   pub still : Still (site_meant site) (events_from w t (b.end - t)) (stood w l p') p'.steps
+
+-- ---- an event
+
+-- The waypoint where the walk stands.
+abbrev pub point_of : Stand → Waypoint
+point_of p = record { code = p.code; memory = p.memory; end = p.end }
+
+-- Event t is known, and the walk stands before it.
+pub record Actable (site : Site) (t : ℕ) (p : Stand) (w : List ℕ) : Type 0 where
+  pub room : WORDS ≤ length w
+  pub owner : OneToSix site.owner.0
+  pub inside : t < MOST
+  pub known : Known (struct_in w t)
+  pub fits : p.code < 64
+
+-- Where it stands after the event, if copies have the value u.
+pub record Over (site : Site) (t : ℕ) (u : Value) (p : Stand) (w : List ℕ) (r : Stand) : Type 0 where
+  pub code : r.code ≡ (effect (site_meant site) (event (event_in w t)) (state p.code u p.memory)).code
+  pub memory : r.memory ≡ (effect (site_meant site) (event (event_in w t)) (state p.code u p.memory)).memory
+  pub fits : r.code < 64
+  pub end : r.end ≡ p.end
+  pub steps : r.steps ≡ p.steps
 
 -- ---- a segment
 

@@ -2,11 +2,11 @@
 // the first one on, as long as there is a step to pay.
 ghost use Rattle.std.specs.Prelude.{◌+◌, ◌≡◌};
 ghost use Rattle.segments.specs.Words.{segment_in};
-ghost use Rattle.blocks.specs.Blocks.{Laid, Priced, Numbered, Planned, Actable, Over, Ahead, Come, Through};
+ghost use Rattle.blocks.specs.Blocks.{Laid, Priced, Numbered, Planned, Ahead, Come, Through};
 ghost use Rattle.blocks.specs.Blocks.{Closable, Closed, Blockable, Blocked};
 
 use crate::splitting::{Place, split};
-use crate::treading::{Stand, tread};
+use crate::treading::{Stand, over_event, tread};
 use entries::Site;
 use levels::{FAR, Task};
 use scratch::{Waypoint, get_event};
@@ -16,22 +16,13 @@ use segments::weighing::{again, behind, cleared, task, weigh};
 use segments::words::{Block, Segment, get_costs, get_segment};
 use walking::act_at;
 
-// The place after the block, if it has a run.
-#[derive(Clone, Copy)]
-pub struct Onto {
-    pub found: bool,
-    pub place: Place,
-}
-
 // The costs of all segments.
 fn weigh_all(w: &mut [u64], site: Site, b: Block)
     requires { Laid site b w.old }
     ensures { Priced site b w.old w.new }
 {
-    let mut l = b.count;
     let mut least: u64 = 0;
-    while 0 < l {
-        l -= 1;
+    for l in (0..b.count).rev() {
         least = weigh(w, site, b, l, least);
     }
 }
@@ -48,25 +39,6 @@ fn plan(w: &mut [u64], site: Site, b: Block, l: usize, s: Segment, m: u32) -> Ta
     task(site, s, m == s.copy, behind(s, after, kept), bounds)
 }
 
-// Where the walk stands after the event that closes segment s.
-fn over_event(w: &[u64], site: Site, s: Segment, p: Stand) -> Stand
-    requires { Actable site s p w.now }
-    ensures { Over site s p w.now result }
-{
-    let here = Waypoint {
-        code: p.code,
-        memory: p.memory,
-        end: p.end,
-    };
-    let made = act_at(site, get_event(w, s.end), s.copy, here);
-    Stand {
-        code: made.entry.sharers,
-        memory: made.entry.memory,
-        end: p.end,
-        steps: p.steps,
-    }
-}
-
 // Walks through segment l and over the event that closes it, if there is one.
 fn cross(w: &mut [u64], site: Site, b: Block, l: usize, p: Stand) -> Stand
     requires { Ahead site b l p w.old }
@@ -76,7 +48,7 @@ fn cross(w: &mut [u64], site: Site, b: Block, l: usize, p: Stand) -> Stand
     let q = plan(w, site, b, l, s, p.memory);
     let at = tread(w, site, b, l, s, q, p);
     if s.end < b.end {
-        return over_event(&*w, site, s, at);
+        return over_event(&*w, site, s.end, s.copy, at);
     }
     at
 }
@@ -87,10 +59,11 @@ fn walk(w: &mut [u64], site: Site, b: Block, p: Stand) -> usize
     ensures { Through site b p w.old result w.new }
 {
     let mut at = p;
-    let mut l: usize = 0;
-    while 0 < at.steps {
+    for l in 0..b.count {
+        if at.steps == 0 {
+            break;
+        }
         at = cross(w, site, b, l, at);
-        l += 1;
     }
     at.end
 }
@@ -103,7 +76,7 @@ fn after_block(w: &[u64], site: Site, b: Block, end: usize) -> Place
     let last = get_segment(w, b.count - 1);
     let here = Waypoint {
         code: 0,
-        memory: b.value,
+        memory: b.forced.unwrap_or(0),
         end,
     };
     let made = act_at(site, get_event(w, last.end), last.copy, here);
@@ -116,8 +89,9 @@ fn after_block(w: &[u64], site: Site, b: Block, end: usize) -> Place
     }
 }
 
-// The shortest schedule from a place to the next one that is known, or to the end of the k events.
-pub fn block(w: &mut [u64], site: Site, p: Place, k: usize) -> Onto
+// The shortest schedule from a place to the next one that is known, or to the end of the k events. It answers that next
+// place, or None if the events up to there have no run.
+pub fn block(w: &mut [u64], site: Site, p: Place, k: usize) -> Option<Place>
     requires { Blockable site p k w.old }
     ensures { Blocked site p k w.old result w.new }
 {
@@ -125,10 +99,7 @@ pub fn block(w: &mut [u64], site: Site, p: Place, k: usize) -> Onto
     weigh_all(w, site, b);
     let steps = rest(&*w, b, 0, p.memory);
     if FAR <= steps {
-        return Onto {
-            found: false,
-            place: p,
-        };
+        return None;
     }
     let from = Stand {
         code: p.code,
@@ -138,15 +109,13 @@ pub fn block(w: &mut [u64], site: Site, p: Place, k: usize) -> Onto
     };
     let end = walk(w, site, b, from);
     if b.end == k {
-        let place = Place {
+        return Some(Place {
             gap: k,
             code: 0,
             copy: 0,
             memory: 0,
             end,
-        };
-        return Onto { found: true, place };
+        });
     }
-    let place = after_block(&*w, site, b, end);
-    Onto { found: true, place }
+    Some(after_block(&*w, site, b, end))
 }

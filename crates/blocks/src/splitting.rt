@@ -2,17 +2,17 @@
 ghost use Rattle.std.specs.Prelude.{◌<◌, ◌≡◌};
 ghost use Rattle.model.specs.Meaning.{meant};
 ghost use Rattle.rows.specs.Sites.{Known};
-ghost use Rattle.blocks.specs.Splitting.{kind_of, closing_of, Splittable, Split};
+ghost use Rattle.blocks.specs.Splitting.{waypoint_at, kind_of, ends_block, closing_of, forced_of, Splittable, Split};
 
 use entries::Site;
-use levels::{OPEN, OTHER, SAME};
+use levels::Closing;
 use model::Event;
 use scratch::{Waypoint, get_event};
 use segments::backing::resets;
 use segments::words::{Block, Segment, put_segment};
 use walking::act_at;
 
-// No reset.
+// No reset. The number is past every gap, so that one comparison says whether a gap stands before the reset.
 const NONE: usize = 255;
 
 // A gap, the state of the location there, and where the list of steps ends.
@@ -25,34 +25,82 @@ pub struct Place {
     pub end: usize,
 }
 
-// What an event is to a segment whose copies have the value u: 0 inside it, 1 or 2 a store, 3 to 5 the last of its
-// block.
-pub fn kind(e: Event, u: u32) -> u8
-    requires { Known e }
-    ensures { result ≡ kind_of u (meant e) }
-{
-    let operation = e.operation;
-    match operation {
-        1 => 1,
-        2 => 1,
-        3 => 3,
-        4 => if e.value == u { 0 } else { 5 },
-        8 => if e.value == u { 2 } else { 5 },
-        9 => if e.value == u { 2 } else { 5 },
-        10 => if e.value == u { 4 } else { 5 },
-        _ => 0,
+// The waypoint there.
+impl From<Place> for Waypoint {
+    ghost from_gives = { λ p w. w ≡ waypoint_at p };
+
+    fn from(p: Place) -> Waypoint {
+        Waypoint {
+            code: p.code,
+            memory: p.memory,
+            end: p.end,
+        }
     }
 }
 
-// How a segment closes with an event of a kind from 1 on.
-fn closing(kind: u8) -> u8
-    ensures { result ≡ closing_of kind }
-{
-    match kind {
-        2 => SAME,
-        4 => SAME,
-        5 => OTHER,
-        _ => OPEN,
+// What an event is to a segment whose copies have the value u. After the last three the state is known.
+#[derive(Clone, Copy, PartialEq, Eq)]
+pub enum Kind {
+    // It stands inside the segment.
+    Inside,
+    // A store, with which the next segment begins.
+    Store,
+    // A store that first reads u.
+    ReadStore,
+    // A store that reaches memory.
+    MemoryStore,
+    // A store that reaches memory and first reads u.
+    ReadMemoryStore,
+    // A read of another value, which must come from memory.
+    OtherRead,
+}
+
+impl Kind {
+    // What event e is to a segment whose copies have the value u.
+    #[tactic(auto, unfolding(crate::specs::Splitting::kind_of, model::specs::Operations::event_of))]
+    pub fn of(e: Event, u: u32) -> Kind
+        requires { Known e }
+        ensures { result ≡ kind_of u (meant e) }
+    {
+        match e.operation {
+            1 | 2 => Kind::Store,
+            3 => Kind::MemoryStore,
+            4 | 8..=10 if e.value != u => Kind::OtherRead,
+            8 | 9 => Kind::ReadStore,
+            10 => Kind::ReadMemoryStore,
+            _ => Kind::Inside,
+        }
+    }
+
+    // Its block ends with it.
+    pub fn ends_block(self) -> bool
+        ensures { result ≡ ends_block self }
+    {
+        match self {
+            Kind::MemoryStore | Kind::ReadMemoryStore | Kind::OtherRead => true,
+            Kind::Inside | Kind::Store | Kind::ReadStore => false,
+        }
+    }
+
+    // How a segment closes with it.
+    fn closing(self) -> Closing
+        ensures { result ≡ closing_of self }
+    {
+        match self {
+            Kind::Inside | Kind::Store | Kind::MemoryStore => Closing::Open,
+            Kind::ReadStore | Kind::ReadMemoryStore => Closing::Same,
+            Kind::OtherRead => Closing::Other,
+        }
+    }
+
+    // The value that memory must have for it, where it reads `value`.
+    fn forced(self, value: u32) -> Option<u32>
+        ensures { result ≡ forced_of self value }
+    {
+        match self {
+            Kind::OtherRead => Some(value),
+            _ => None,
+        }
     }
 }
 
@@ -67,28 +115,26 @@ pub(crate) fn split(w: &mut [u64], site: Site, p: Place, k: usize) -> Block
         first: p.gap,
         end: k,
         code: p.code,
-        closing: OPEN,
+        closing: Closing::Open,
         reset: NONE,
     };
-    let mut t = p.gap;
-    while t < k {
+    for t in p.gap..k {
         let e = get_event(&*w, t);
-        let what = kind(e, s.copy);
-        if what == 0 {
-            if (s.reset == NONE) & resets(site, e) {
+        let what = Kind::of(e, s.copy);
+        if what == Kind::Inside {
+            if s.reset == NONE && resets(site, e) {
                 s.reset = t;
             }
         } else {
             s.end = t;
-            s.closing = closing(what);
+            s.closing = what.closing();
             put_segment(w, l, s);
             l += 1;
-            if 3 <= what {
+            if what.ends_block() {
                 return Block {
                     count: l,
                     end: t + 1,
-                    forced: what == 5,
-                    value: e.value,
+                    forced: what.forced(e.value),
                 };
             }
             let here = Waypoint {
@@ -102,17 +148,15 @@ pub(crate) fn split(w: &mut [u64], site: Site, p: Place, k: usize) -> Block
                 first: t + 1,
                 end: k,
                 code: made.entry.sharers,
-                closing: OPEN,
+                closing: Closing::Open,
                 reset: NONE,
             };
         }
-        t += 1;
     }
     put_segment(w, l, s);
     Block {
         count: l + 1,
         end: k,
-        forced: false,
-        value: 0,
+        forced: None,
     }
 }

@@ -4,10 +4,13 @@ use native.Mathlib.Omega.{arith}
 use mathlib.Core.Path.{◌≡◌, refl, sym}
 use mathlib.Core.Bool.{Bool, true, false, cond}
 use mathlib.Core.List.{List}
+use Rattle.std.specs.Prelude.{Result, Ok, Err}
+use Rattle.fields.specs.declared.Refusal.{Refusal}
 use Rattle.log_bytes.specs.Records.{Records, system_of}
 use Rattle.log_bytes.specs.Bytes.{Bytes}
 use Rattle.log_bytes.specs.Reading.{Log, accepted, rejected, read_log}
 use Rattle.log_bytes.proofs.Lengths.{longest}
+use Rattle.recorder.specs.Recording as recording
 use Rattle.recorder.specs.Recording.{Recorded, count, rejected, recorded}
 use Rattle.recorder.proofs.Counts.{count_most}
 use Rattle.converter.specs.Converting as converting
@@ -33,6 +36,11 @@ converted_fits s out b (converting.gives len) e =
     let (t, same, long) = told_gives (conversion s out) len (sym e) in
     omega (arith, conversion_most s out t b same, longest, long)
 converted_fits s out b (converting.Answer.refused number) e = tt
+
+-- What fits 24 bits fits 32.
+pub length_fits : (a : Result ℕ Refusal) → ConvertedFits (converting.answer_of a) → RecordedFits (recording.answer_of a)
+length_fits (Ok n) fits = omega arith
+length_fits (Err why) fits = tt
 
 -- The right verdict on a log has at most 256 steps and 1,544 bytes, so both fit 16 bits.
 told_fits : (s : List ℕ) (r : Records) → read_log s ≡ accepted r → (v : Verdict) → Right (system_of r) r.events v

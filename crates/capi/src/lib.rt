@@ -18,7 +18,7 @@ ghost use Rattle.capi.specs.Version.{requests, pack_version};
 
 use converter::convert;
 use judge::judge;
-use packing::{pack_converted, pack_judged, pack_reading, pack_recorded, pack_replayed};
+use packing::{pack_judged, pack_length, pack_reading, pack_replayed};
 use reader::read;
 use recorder::record;
 use replay::replay;
@@ -30,7 +30,7 @@ pub extern "C" fn cxl0_record(buf: &mut [u8], used: usize, tag: u8, payload: &[u
     ensures buf_after { buf.new ≡ written (recorded buf.old used tag payload.now)
         buf.old used tag payload.now }
 {
-    pack_recorded(record(buf, used, tag, payload))
+    pack_length(record(buf, used, tag, payload))
 }
 
 // Reads a log to its end.
@@ -49,7 +49,7 @@ pub extern "C" fn cxl0_convert(log: &[u8], out: &mut [u8]) -> u64
     ensures out_after { out.new ≡ converting.written (conversion log.now out.old)
         out.old }
 {
-    pack_converted(convert(log, out))
+    pack_length(convert(log, out))
 }
 
 // Replays a log with the schedule of a verdict file that says allowed.

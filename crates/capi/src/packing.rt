@@ -7,40 +7,29 @@ ghost use Rattle.converter.specs.Converting as converting;
 ghost use Rattle.replay.specs.Answers as replay;
 ghost use Rattle.judge.specs.Judging as judging;
 ghost use Rattle.capi.specs.Packing.{pack_recorded, pack_summary, pack_converted, pack_replayed, pack_judged};
-ghost use Rattle.capi.specs.Packing.{RecordedFits, ConvertedFits, JudgedFits};
+ghost use Rattle.capi.specs.Packing.{RecordedFits, JudgedFits};
 
-use converter::Converted;
 use fields::Refusal;
-use fields::refusals::number_of;
 use judge::Judged;
 use log_bytes::Head;
-use reader::Reading;
-use recorder::Recorded;
 use replay::Replayed;
 
 // A refusal: its number alone.
 fn refusal(why: Refusal) -> u64
     ensures { result ≡ number_of why }
 {
-    number_of(why) as u64
+    u8::from(why) as u64
 }
 
-// A new count of used bytes, or the length of a log.
-fn count(used: usize) -> u64
-    requires { used < 2 ^ 32 }
-    ensures { result ≡ used * 2 ^ 8 }
-{
-    used as u64 * 0x100
-}
-
-// What recording a field comes to.
-pub(crate) fn pack_recorded(answer: Recorded) -> u64
+// What recording a field or converting a log comes to: a new count of used bytes, or the length of the log written.
+pub(crate) fn pack_length(answer: Result<usize, Refusal>) -> u64
     requires { RecordedFits (recorder.answer_of answer) }
-    ensures { result ≡ pack_recorded (recorder.answer_of answer) }
+    ensures recorded { result ≡ pack_recorded (recorder.answer_of answer) }
+    ensures converted { result ≡ pack_converted (converting.answer_of answer) }
 {
     match answer {
-        Recorded::Count(used) => count(used),
-        Recorded::Refused(why) => refusal(why),
+        Ok(length) => length as u64 * 0x100,
+        Err(why) => refusal(why),
     }
 }
 
@@ -52,41 +41,23 @@ fn summary(head: Head) -> u64
 }
 
 // What a log comes to.
-pub(crate) fn pack_reading(answer: Reading) -> u64
+pub(crate) fn pack_reading(answer: Result<Head, Refusal>) -> u64
     ensures { result ≡ pack_summary (reader.meaning_of answer) }
 {
     match answer {
-        Reading::Accepted(head) => summary(head),
-        Reading::Refused(why) => refusal(why),
+        Ok(head) => summary(head),
+        Err(why) => refusal(why),
     }
-}
-
-// What a conversion comes to.
-pub(crate) fn pack_converted(answer: Converted) -> u64
-    requires { ConvertedFits (converting.answer_of answer) }
-    ensures { result ≡ pack_converted (converting.answer_of answer) }
-{
-    match answer {
-        Converted::Length(len) => count(len),
-        Converted::Refused(why) => refusal(why),
-    }
-}
-
-// The events passed before the first thing not possible.
-fn passed(events: u8) -> u64
-    ensures { result ≡ events * 2 ^ 16 }
-{
-    events as u64 * 0x10000
 }
 
 // What a replay comes to.
-pub(crate) fn pack_replayed(answer: Replayed) -> u64
+pub(crate) fn pack_replayed(answer: Result<Replayed, Refusal>) -> u64
     ensures { result ≡ pack_replayed (replay.answer_of answer) }
 {
     match answer {
-        Replayed::Yes => 0x100,
-        Replayed::No(events) => passed(events),
-        Replayed::Refused(why) => refusal(why),
+        Ok(Replayed::Yes) => 0x100,
+        Ok(Replayed::No(passed)) => passed as u64 * 0x10000,
+        Err(why) => refusal(why),
     }
 }
 
@@ -102,13 +73,13 @@ fn verdict(allowed: u8, event: u8, steps: usize, len: usize) -> u64
 }
 
 // What a judgement comes to.
-pub(crate) fn pack_judged(answer: Judged) -> u64
+pub(crate) fn pack_judged(answer: Result<Judged, Refusal>) -> u64
     requires { JudgedFits (judging.answer_of answer) }
     ensures { result ≡ pack_judged (judging.answer_of answer) }
 {
     match answer {
-        Judged::Allowed(steps, len) => verdict(1, 0, steps, len),
-        Judged::Impossible(event, len) => verdict(0, event, 0, len),
-        Judged::Refused(why) => refusal(why),
+        Ok(Judged::Allowed(steps, len)) => verdict(1, 0, steps, len),
+        Ok(Judged::Impossible(event, len)) => verdict(0, event, 0, len),
+        Err(why) => refusal(why),
     }
 }

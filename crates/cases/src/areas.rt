@@ -1,70 +1,46 @@
 // What stands in the areas before a call, and whether it still stands there afterwards. The areas here are whole
 // buffers: a call is given the front of each, and the rest must stay as it was too.
 
-// The byte that stands at a position of the output beforehand, never 0.
-fn byte_before(at: usize) -> u8 {
-    (at % 255) as u8 + 1
+// What stands at a position of an area beforehand.
+pub trait Before: Copy + PartialEq + Drop {
+    fn before(at: usize) -> Self;
 }
 
-// The word that stands at a position of the scratch area beforehand, with nearly every bit set.
-fn word_before(at: usize) -> u64 {
-    !(at as u64)
-}
-
-pub fn fill_bytes(out: &mut [u8]) {
-    for at in 0..out.len() {
-        out[at] = byte_before(at);
+// A byte of the output, never 0.
+impl Before for u8 {
+    fn before(at: usize) -> u8 {
+        (at % 255) as u8 + 1
     }
 }
 
-pub fn fill_words(scratch: &mut [u64]) {
-    for at in 0..scratch.len() {
-        scratch[at] = word_before(at);
+// A word of the scratch area, with nearly every bit set.
+impl Before for u64 {
+    fn before(at: usize) -> u64 {
+        !(at as u64)
     }
 }
 
-fn outside(at: usize, start: usize, length: usize) -> bool {
-    if at < start {
-        return true;
+pub fn fill<T: Before>(area: &mut [T]) {
+    for (at, x) in area.iter_mut().enumerate() {
+        *x = T::before(at);
     }
-    length <= at - start
 }
 
-// Every byte outside the file of this start and length is as it was.
-pub fn bytes_kept(out: &[u8], start: usize, length: usize) -> bool {
-    for at in 0..out.len() {
-        if outside(at, start, length) & (out[at] != byte_before(at)) {
-            return false;
-        }
-    }
-    true
+// Everything outside the part of this start and length is as it was.
+pub fn is_kept<T: Before>(area: &[T], start: usize, length: usize) -> bool {
+    let part = start..start.saturating_add(length);
+    area.iter()
+        .enumerate()
+        .all(|(at, x)| part.contains(&at) || *x == T::before(at))
+}
+
+// The first `zeros` words are 0, and every other is as it was.
+pub fn is_cleared(scratch: &[u64], zeros: usize) -> bool {
+    scratch.iter().take(zeros).all(|w| *w == 0) && is_kept(scratch, 0, zeros)
 }
 
 // The part of this start and length, or the empty part.
 pub fn part(bytes: &[u8], start: usize, length: usize) -> &[u8] {
-    if bytes.len() < start {
-        return &bytes[..0];
-    }
-    if bytes.len() - start < length {
-        return &bytes[..0];
-    }
-    let end = start + length;
-    &bytes[start..end]
-}
-
-fn word_after(at: usize, zeros: usize) -> u64 {
-    if at < zeros {
-        return 0;
-    }
-    word_before(at)
-}
-
-// The first `zeros` words are 0, and every other is as it was.
-pub fn words_cleared(scratch: &[u64], zeros: usize) -> bool {
-    for at in 0..scratch.len() {
-        if scratch[at] != word_after(at, zeros) {
-            return false;
-        }
-    }
-    true
+    let end = start.saturating_add(length);
+    bytes.get(start..end).unwrap_or(&[])
 }

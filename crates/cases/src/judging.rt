@@ -1,11 +1,10 @@
 // The judge, and replay of what it wrote. Both areas are filled with a pattern before the call. What is printed is the
 // case's name and the answer; after a verdict the file and what replay says to it; then whether the output outside the
 // file is as it was, and whether the scratch area is all zero after a verdict, as it was after a refusal.
-ghost use Rattle.std.specs.Prelude.{◌≤◌, length};
-
-use crate::areas::{bytes_kept, fill_bytes, fill_words, part, words_cleared};
-use crate::printing::{say, say_bytes, say_count, say_refusal, say_replayed, say_so};
+use crate::areas::{fill, is_cleared, is_kept, part};
+use crate::printing::{Hex, say_refusal, say_replayed, say_so};
 use crate::words::{MOST, bytes_after, find, number_after};
+use fields::Refusal;
 use judge::{Judged, judge};
 use replay::replay;
 use std::io;
@@ -15,99 +14,78 @@ const OUTPUT: usize = 4000;
 
 const SCRATCH: usize = 5000;
 
-// The bytes of a file, and what replay says to it.
-fn say_file(rt: &impl Print, log: &[u8], file: &[u8]) -> io::Result<()> {
-    say(rt, b"\nfile ")?;
-    say_bytes(rt, file)?;
-    say(rt, b"\nreplay ")?;
-    say_replayed(rt, replay(log, file))
+// The lengths of a case's areas, and the offset in its output.
+#[derive(Clone, Copy)]
+struct Lengths {
+    output: usize,
+    offset: usize,
+    scratch: usize,
 }
 
-// What the call left after a verdict: a file in the output, and the areas.
+// What a verdict left: a file of this length in the output, and the areas.
 fn say_left(
     rt: &impl Print,
     log: &[u8],
-    out: &[u8],
-    offset: usize,
+    at: Lengths,
     length: usize,
+    out: &[u8],
     scratch: &[u64],
-    words: usize,
 ) -> io::Result<()> {
-    say_file(rt, log, part(out, offset, length))?;
-    say_so(
-        rt,
-        bytes_kept(out, offset, length),
-        b"output outside the file as it was",
-    )?;
-    say_so(rt, words_cleared(scratch, words), b"scratch all zero")
+    let file = part(out, at.offset, length);
+    print!(rt; "\nfile {}\nreplay ", Hex(file))?;
+    say_replayed(rt, replay(log, file))?;
+    let kept = is_kept(out, at.offset, length);
+    say_so(rt, kept, "output outside the file as it was")?;
+    say_so(rt, is_cleared(scratch, at.scratch), "scratch all zero")
 }
 
-// What it left after a refusal.
+// What a refusal left.
 fn say_kept(rt: &impl Print, out: &[u8], scratch: &[u64]) -> io::Result<()> {
-    say_so(rt, bytes_kept(out, 0, 0), b"output as it was")?;
-    say_so(rt, words_cleared(scratch, 0), b"scratch as it was")
-}
-
-fn say_verdict(rt: &impl Print, word: &[u8], n: usize, length: usize) -> io::Result<()> {
-    say_count(rt, word, n)?;
-    say_count(rt, b" ", length)
+    say_so(rt, is_kept(out, 0, 0), "output as it was")?;
+    say_so(rt, is_kept(scratch, 0, 0), "scratch as it was")
 }
 
 fn say_judged(
     rt: &impl Print,
     log: &[u8],
-    answer: Judged,
+    at: Lengths,
+    answer: Result<Judged, Refusal>,
     out: &[u8],
-    offset: usize,
     scratch: &[u64],
-    words: usize,
 ) -> io::Result<()> {
     match answer {
-        Judged::Allowed(steps, length) => {
-            say_verdict(rt, b" allowed ", steps, length)?;
-            say_left(rt, log, out, offset, length, scratch, words)
+        Ok(Judged::Allowed(steps, length)) => {
+            print!(rt; " allowed {steps} {length}")?;
+            say_left(rt, log, at, length, out, scratch)
         }
-        Judged::Impossible(event, length) => {
-            say_verdict(rt, b" impossible ", event as usize, length)?;
-            say_left(rt, log, out, offset, length, scratch, words)
+        Ok(Judged::Impossible(event, length)) => {
+            print!(rt; " impossible {event} {length}")?;
+            say_left(rt, log, at, length, out, scratch)
         }
-        Judged::Refused(why) => {
-            say(rt, b" ")?;
+        Err(why) => {
+            rt.print(" ")?;
             say_refusal(rt, why)?;
             say_kept(rt, out, scratch)
         }
     }
 }
 
-// The judge's answer in the first n bytes and the first m words of the areas.
-fn judge_front(
-    log: &[u8],
-    out: &mut [u8],
-    n: usize,
-    offset: usize,
-    scratch: &mut [u64],
-    m: usize,
-) -> Judged
-    requires n_in_bounds { n ≤ length out.old }
-    requires m_in_bounds { m ≤ length scratch.old }
-{
-    judge(log, &mut out[..n], offset, &mut scratch[..m])
-}
-
-// Says nothing where an area of the case is longer than the whole.
-fn judge_in(rt: &impl Print, log: &[u8], n: usize, offset: usize, m: usize) -> io::Result<()> {
-    if OUTPUT < n {
-        return Ok(());
-    }
-    if SCRATCH < m {
+// The judge's answer in the front of each area. Says nothing where an area of the case is longer than the whole.
+fn judge_in(rt: &impl Print, log: &[u8], at: Lengths) -> io::Result<()> {
+    if OUTPUT < at.output || SCRATCH < at.scratch {
         return Ok(());
     }
     let mut out = [0u8; OUTPUT];
     let mut scratch = [0u64; SCRATCH];
-    fill_bytes(&mut out);
-    fill_words(&mut scratch);
-    let answer = judge_front(log, &mut out, n, offset, &mut scratch, m);
-    say_judged(rt, log, answer, &out, offset, &scratch, m)
+    fill(&mut out);
+    fill(&mut scratch);
+    let answer = judge(
+        log,
+        &mut out[..at.output],
+        at.offset,
+        &mut scratch[..at.scratch],
+    );
+    say_judged(rt, log, at, answer, &out, &scratch)
 }
 
 // A case whose name ends at a position.
@@ -117,8 +95,12 @@ fn judge_case(rt: &impl Print, line: &[u8], name: usize) -> io::Result<()> {
     let output = number_after(line, bytes.at);
     let offset = number_after(line, output.at);
     let scratch = number_after(line, offset.at);
-    let n = bytes.value;
-    judge_in(rt, &log[..n], output.value, offset.value, scratch.value)
+    let lengths = Lengths {
+        output: output.value,
+        offset: offset.value,
+        scratch: scratch.value,
+    };
+    judge_in(rt, &log[..bytes.value], lengths)
 }
 
 pub fn judge_line(rt: &impl Print, line: &[u8]) -> io::Result<()> {
@@ -126,6 +108,6 @@ pub fn judge_line(rt: &impl Print, line: &[u8]) -> io::Result<()> {
         return Ok(());
     }
     let name = find(line, 2, b' ');
-    say(rt, &line[2..name])?;
+    rt.write_all(&line[2..name])?;
     judge_case(rt, line, name)
 }

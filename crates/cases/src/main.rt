@@ -19,93 +19,64 @@ mod judging;
 mod printing;
 mod words;
 
-ghost use Rattle.std.specs.Prelude.{◌<◌};
-
 use converting::convert_line;
-use fields::Edition;
+use fields::{Edition, Refusal};
 use judging::judge_line;
 use log_bytes::Head;
-use printing::{say, say_bytes, say_count, say_refusal, say_replayed};
-use reader::{Reading, read};
-use recorder::{Recorded, record};
+use printing::{Hex, say_refusal, say_replayed};
+use reader::read;
+use recorder::record;
 use replay::replay;
 use std::io;
 use std::io::Read;
 use streams::read_full;
-use words::{MOST, bytes_after, find};
+use words::{MOST, bytes_after};
 
 // Room for all cases.
 const INPUT: usize = 1048576;
 
-// Edition 1 goes without saying.
-fn say_edition(rt: &impl Print, edition: Edition) -> io::Result<()> {
-    match edition {
-        Edition::First => Ok(()),
-        Edition::Second => say(rt, b" edition 2"),
-    }
-}
-
 fn say_head(rt: &impl Print, head: Head) -> io::Result<()> {
-    say_count(rt, b"accepted ", head.machines as usize)?;
-    say_count(rt, b" ", head.persistent as usize)?;
-    say_count(rt, b" ", head.locations as usize)?;
-    say_count(rt, b" ", head.events as usize)?;
-    let edition = head.edition;
-    say_edition(rt, edition)
-}
-
-fn say_read(rt: &impl Print, r: Reading) -> io::Result<()> {
-    match r {
-        Reading::Accepted(head) => return say_head(rt, head),
-        Reading::Refused(why) => return say_refusal(rt, why),
+    let machines = head.machines;
+    let persistent = head.persistent;
+    let locations = head.locations;
+    let events = head.events;
+    print!(rt; "accepted {machines} {persistent} {locations} {events}")?;
+    match head.edition {
+        // Edition 1 goes without saying.
+        Edition::First => Ok(()),
+        Edition::Second => rt.print(" edition 2"),
     }
 }
 
 fn read_line(rt: &impl Print, line: &[u8]) -> io::Result<()> {
     let mut log = [0u8; MOST];
     let a = bytes_after(line, 1, &mut log);
-    let n = a.value;
-    say_read(rt, read(&log[..n]))
+    match read(&log[..a.value]) {
+        Ok(head) => say_head(rt, head),
+        Err(why) => say_refusal(rt, why),
+    }
 }
 
-fn say_recorded(rt: &impl Print, r: Recorded) -> io::Result<()> {
-    match r {
-        Recorded::Count(count) => return say_count(rt, b"count ", count),
-        Recorded::Refused(why) => return say_refusal(rt, why),
+fn say_recorded(rt: &impl Print, answer: Result<usize, Refusal>) -> io::Result<()> {
+    match answer {
+        Ok(count) => print!(rt; "count {count}"),
+        Err(why) => say_refusal(rt, why),
     }
 }
 
 // The answer, and the whole buffer afterwards.
-fn say_record(
-    rt: &impl Print,
-    buf: &mut [u8],
-    used: usize,
-    tag: u8,
-    payload: &[u8],
-) -> io::Result<()> {
-    say_recorded(rt, record(buf, used, tag, payload))?;
-    say(rt, b" ")?;
-    say_bytes(rt, buf)
-}
-
-fn wide(b: u8) -> usize
-    ensures { result < 256 }
-{
-    b as usize
-}
-
 fn record_line(rt: &impl Print, line: &[u8]) -> io::Result<()> {
     let mut buf = [0u8; MOST];
     let mut call = [0u8; MOST];
     let a = bytes_after(line, 1, &mut buf);
     let b = bytes_after(line, a.at, &mut call);
-    let n = a.value;
-    let m = b.value;
-    if m < 3 {
-        return Ok(());
+    let buf = &mut buf[..a.value];
+    if let [high, low, tag, payload @ ..] = &call[..b.value] {
+        let used = usize::from(*high) * 256 + usize::from(*low);
+        say_recorded(rt, record(buf, used, *tag, payload))?;
+        print!(rt; " {}", Hex(buf))?;
     }
-    let used = wide(call[0]) * 256 + wide(call[1]);
-    say_record(rt, &mut buf[..n], used, call[2], &call[3..m])
+    Ok(())
 }
 
 fn replay_line(rt: &impl Print, line: &[u8]) -> io::Result<()> {
@@ -113,36 +84,25 @@ fn replay_line(rt: &impl Print, line: &[u8]) -> io::Result<()> {
     let mut schedule = [0u8; MOST];
     let a = bytes_after(line, 1, &mut log);
     let b = bytes_after(line, a.at, &mut schedule);
-    let n = a.value;
-    let m = b.value;
-    say_replayed(rt, replay(&log[..n], &schedule[..m]))
+    say_replayed(rt, replay(&log[..a.value], &schedule[..b.value]))
 }
 
 fn one_case(rt: &impl Print, line: &[u8]) -> io::Result<()> {
-    if 0 < line.len() {
-        match line[0] {
-            b'r' => return read_line(rt, line),
-            b'w' => return record_line(rt, line),
-            b's' => return replay_line(rt, line),
-            b'j' => return judge_line(rt, line),
-            b'c' => return convert_line(rt, line),
-            _ => return say(rt, line),
-        }
+    match line {
+        [b'r', ..] => read_line(rt, line),
+        [b'w', ..] => record_line(rt, line),
+        [b's', ..] => replay_line(rt, line),
+        [b'j', ..] => judge_line(rt, line),
+        [b'c', ..] => convert_line(rt, line),
+        _ => rt.write_all(line),
     }
-    Ok(())
 }
 
-fn one_line(rt: &impl Print, line: &[u8]) -> io::Result<()> {
-    one_case(rt, line)?;
-    say(rt, b"\n")
-}
-
-fn lines(rt: &impl Print, text: &[u8]) -> io::Result<()> {
-    let mut at = 0;
-    while at < text.len() {
-        let end = find(text, at, b'\n');
-        one_line(rt, &text[at..end])?;
-        at = end + 1;
+// Runs the cases of a text, a line each.
+fn all_cases(rt: &impl Print, text: &[u8]) -> io::Result<()> {
+    for line in text.split_inclusive(|b| *b == b'\n') {
+        one_case(rt, line.strip_suffix(b"\n").unwrap_or(line))?;
+        rt.print("\n")?;
     }
     Ok(())
 }
@@ -150,7 +110,7 @@ fn lines(rt: &impl Print, text: &[u8]) -> io::Result<()> {
 // Runs the cases of standard input, as many as the buffer holds.
 fn run<R: Read>(rt: &impl Print, reader: &mut R, input: &mut [u8]) -> io::Result<()> {
     let got = read_full(reader, input)?;
-    lines(rt, &input[..got])
+    all_cases(rt, &input[..got])
 }
 
 fn main(rt: HostRuntime) -> io::Result<()> {

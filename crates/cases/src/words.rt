@@ -14,22 +14,15 @@ pub fn find(text: &[u8], from: usize, byte: u8) -> usize
     ensures before { (k : ℕ) → from ≤ k → k < result → slice_index text.now k ≢ byte }
     ensures found { result < length text.now → slice_index text.now result ≡ byte }
 {
-    let mut at = from;
-    while at < text.len() {
-        if text[at] == byte {
-            return at;
-        }
-        at += 1;
+    match text[from..].iter().position(|b| *b == byte) {
+        Some(passed) => from + passed,
+        None => text.len(),
     }
-    at
 }
 
 // Past the space at a position.
 fn past(at: usize) -> usize {
-    if at < 65536 {
-        return at + 1;
-    }
-    at
+    if at < 65536 { at + 1 } else { at }
 }
 
 // The bytes that the word after the space at a position says, at the front of the buffer: how many, and where the word

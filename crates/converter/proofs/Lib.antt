@@ -1,6 +1,7 @@
 pub mod Values
 pub mod Limits
 pub mod Puts
+pub mod Wrote
 pub mod EventFields
 pub mod Homes
 pub mod Written

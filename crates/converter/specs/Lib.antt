@@ -1,3 +1,4 @@
 pub mod Values
 pub mod Converting
 pub mod Puts
+pub mod Writing

@@ -1,8 +1,8 @@
 // What each action makes of the entry of its location. Names that the system does not have are for the state
 // to refuse; the equations hold for them too.
-ghost use Rattle.std.specs.Prelude.{◌≡◌, cond};
-ghost use Rattle.model.specs.Cxl0.{Crash, SetCrash, silent, Propagate, WriteBack};
-ghost use Rattle.model.specs.OneLocation.{clears_site, readable_at};
+ghost use Rattle.std.specs.Prelude.{◌≡◌, cond, ◌&&◌};
+ghost use Rattle.model.specs.Cxl0.{silent, Propagate, WriteBack};
+ghost use Rattle.model.specs.OneLocation.{readable_at};
 ghost use Rattle.entries.specs.Entries.{site_meant, short_of, start_entry, masked_to, acted_of, acted_by};
 
 use super::{Acted, Entry, Site};
@@ -25,27 +25,29 @@ fn acted(enabled: bool, sharers: u8, copy: u32, memory: u32) -> Acted
 }
 
 impl Site {
-    // What a crash of machine i leaves of memory value m: the initial value, if i is the owner and its memory is
-    // volatile.
-    fn left(self, i: Machine, m: u32) -> u32
-        ensures { result ≡ cond (clears_site (Crash i.0) (site_meant self)) self.initial m }
+    // What a crash leaves of memory value m: the initial value, if the owner crashes and its memory is volatile.
+    fn left(self, owner_crashes: bool, m: u32) -> u32
+        ensures { result ≡ cond (owner_crashes && self.volatile) self.initial m }
     {
-        if self.owner.is(i) & self.volatile {
+        if owner_crashes && self.volatile {
             self.initial
         } else {
             m
         }
     }
-
-    // So for a crash of the machines of a set, if the owner is one of them.
-    fn left_by_set(self, set: u8, m: u32) -> u32
-        ensures { result ≡ cond (clears_site (SetCrash set) (site_meant self)) self.initial m }
-    {
-        let cleared = (set & bit(self.owner) != 0) & self.volatile;
-        if cleared { self.initial } else { m }
-    }
 }
 
+#[tactic(auto,
+// What each effect leaves.
+using(crate::proofs::Effects::effects),
+// The event of an operation.
+unfolding(model::specs::Operations::is_operation, model::specs::Operations::event_of, model::specs::Cxl0::crashes,
+// What it asks and does at a location.
+model::specs::OneLocation::enabled_at, model::specs::OneLocation::effect, model::specs::OneLocation::moved,
+// Entries.
+crate::specs::Entries::short_of, crate::specs::Entries::entry_of, crate::specs::Entries::masked_to,
+// Answers.
+crate::specs::Entries::acted_of, crate::specs::Entries::acted_by))]
 impl Entry {
     // At the start: no cache holds the location, and memory holds its initial value.
     pub fn start(initial: u32) -> Entry
@@ -62,11 +64,9 @@ impl Entry {
     pub fn masked(self, n: u8) -> Entry
         ensures { result ≡ masked_to n self }
     {
-        let sharers = up_to(n, self.sharers);
         Entry {
-            sharers,
-            copy: self.copy,
-            memory: self.memory,
+            sharers: up_to(n, self.sharers),
+            ..self
         }
     }
 
@@ -95,8 +95,7 @@ impl Entry {
         let set = e.location.0;
         let v = e.value;
         let reads = self.reads(v);
-        let operation = e.operation;
-        match operation {
+        match e.operation {
             // LStore, RStore, MStore
             1 => acted(true, mine, v, memory),
             2 => acted(true, owners, v, memory),
@@ -111,13 +110,19 @@ impl Entry {
             5 => acted(held & mine == 0, held, copy, memory),
             6 => acted(held == 0, held, copy, memory),
             // a crash
-            7 => acted(true, held & !mine, copy, site.left(e.machine, memory)),
+            7 => {
+                let kept = site.left(site.owner == e.machine, memory);
+                acted(true, held & !mine, copy, kept)
+            }
             // L-RMW, R-RMW, M-RMW: the load of v, and at once the store
             8 => acted(reads, mine, e.written, memory),
             9 => acted(reads, owners, e.written, memory),
             10 => acted(reads, 0, copy, e.written),
             // a set crash
-            11 => acted(true, held & !set, copy, site.left_by_set(set, memory)),
+            11 => {
+                let kept = site.left(set & owners != 0, memory);
+                acted(true, held & !set, copy, kept)
+            }
             0 => acted(false, held, copy, memory),
             12..=255 => acted(false, held, copy, memory),
         }
@@ -131,7 +136,7 @@ impl Entry {
         let k = site.owner;
         let mine = bit(i);
         acted(
-            !i.is(k) & (held & mine != 0),
+            (i != k) & (held & mine != 0),
             held & !mine | bit(k),
             self.copy,
             self.memory,

@@ -33,7 +33,8 @@ pub struct Site {
     pub initial: u32,
 }
 
-// The answer to an action: whether the entry enables it, and the entry after it.
+// The answer to an action: whether the entry enables it, and the entry after it. The search asks for that entry also
+// where the action is not enabled, so that it is no Option.
 #[derive(Clone, Copy)]
 pub struct Acted {
     pub enabled: bool,

@@ -1,5 +1,5 @@
 // The events of the log that matter at a location, copied to where the search looks for events.
-ghost use Rattle.std.specs.Prelude.{◌+◌, ◌*◌, ◌≤◌, ◌<◌, ◌≡◌, List, length, get_or};
+ghost use Rattle.std.specs.Prelude.{◌+◌, ◌*◌, ◌/◌, ◌%◌, ◌≤◌, ◌<◌, ◌≡◌, List, length, get_or};
 ghost use Rattle.model.specs.Cxl0.{Event};
 ghost use Rattle.scratch.specs.Layout.{EVENTS, WORDS, MOST, LOG};
 ghost use Rattle.events.specs.Linking.{index_in, Linked, Picked};
@@ -17,12 +17,20 @@ pub struct Pick {
     pub count: usize,
 }
 
+// The index that stands at a place in the first word of an event, its own or that of a later event.
+pub(crate) fn index_in(word: u64, place: u64) -> usize
+    requires { 0 < place }
+    ensures { result ≡ word / place % 256 }
+{
+    (word / place % 256) as usize
+}
+
 // The index of event t of the search among the events of the log.
 pub fn index(w: &[u64], t: usize) -> usize
     requires { (WORDS ≤ length w.now) × (t < MOST) }
     ensures { result ≡ index_in EVENTS w.now t }
 {
-    (w[EVENTS + 2 * t] / INDEX % 256) as usize
+    index_in(w[EVENTS + 2 * t], INDEX)
 }
 
 // Makes event j of the log event k of the search, and hands back its first word.
@@ -46,8 +54,8 @@ fn pick_first(w: &mut [u64], first: usize) -> Pick
 {
     let word = copy_event(w, first, 0);
     Pick {
-        own: (word / NEXT_OWN % 256) as usize,
-        crash: (word / NEXT_CRASH % 256) as usize,
+        own: index_in(word, NEXT_OWN),
+        crash: index_in(word, NEXT_CRASH),
         count: 1,
     }
 }
@@ -60,17 +68,18 @@ fn pick_one(w: &mut [u64], p: Pick) -> Pick
 {
     if p.crash < p.own {
         let word = copy_event(w, p.crash, p.count);
-        return Pick {
-            own: p.own,
-            crash: (word / NEXT_CRASH % 256) as usize,
+        Pick {
+            crash: index_in(word, NEXT_CRASH),
             count: p.count + 1,
-        };
-    }
-    let word = copy_event(w, p.own, p.count);
-    Pick {
-        own: (word / NEXT_OWN % 256) as usize,
-        crash: p.crash,
-        count: p.count + 1,
+            ..p
+        }
+    } else {
+        let word = copy_event(w, p.own, p.count);
+        Pick {
+            own: index_in(word, NEXT_OWN),
+            count: p.count + 1,
+            ..p
+        }
     }
 }
 

@@ -4,14 +4,13 @@ use native.Mathlib.Nat.{add-sub_cancel_left}
 use mathlib.Core.Path.{◌≡◌, sym, ap, ◌∙◌}
 use mathlib.Core.List.{List}
 use lib.ListN.{length, take, drop, length-map}
+use Rattle.std.specs.Prelude.{Result, Ok, Err}
 use Rattle.model.specs.Words.{step_of_word}
 use Rattle.fields.specs.Refusals.{number_of}
 use Rattle.fields.specs.declared.Refusal.{Refusal}
 use Rattle.verdict_file.specs.Files.{Verdict, impossible, file_of}
 use Rattle.verdict_file.specs.Answers as written
-use Rattle.verdict_file.specs.Answers.{written_of}
 use Rattle.verdict_file.specs.Writing.{allowed_by, answer, output}
-use Rattle.verdict_file.specs.declared.Written.{Written}
 use Rattle.verdict_file.proofs.Writing.{given}
 use Rattle.judge.specs.Judging.{gives, answer_of, told}
 use Rattle.scratch.specs.Layout.{SORTED}
@@ -34,18 +33,18 @@ unfolding Issuable
 issuable_number e w can = rw e at can
 
 -- What the writer answered, and the output that it left.
-module _ (v : Verdict) {out out' : List ℕ} {offset : ℕ} {x : Written}
-    (told_by : written_of x ≡ answer out offset v) (file : out' ≡ output out offset v) where
+module _ (v : Verdict) {out out' : List ℕ} {offset : ℕ} {x : Result ℕ Refusal}
+    (told_by : written.answer_of x ≡ answer out offset v) (file : out' ≡ output out offset v) where
   -- A length was written: it is the file's.
-  pub issued : {n : ℕ} {j : Judged} → x ≡ Written.Length n → (n ≡ length (file_of v) → answer_of j ≡ told v)
+  pub issued : {n : ℕ} {j : Result Judged Refusal} → x ≡ Ok n → (n ≡ length (file_of v) → answer_of j ≡ told v)
       → Issued v out offset out' j
   issued {n} e tell =
-      let wrote : answer out offset v ≡ written.gives n = sym told_by ∙ ap written_of e in
+      let wrote : answer out offset v ≡ written.gives n = sym told_by ∙ ap written.answer_of e in
       record { answer = rw wrote (tell (given out offset v wrote).2); file = file }
 
-  pub not_issued : {why : Refusal} → x ≡ Written.Refused why → Issued v out offset out' (Judged.Refused why)
+  pub not_issued : {why : Refusal} → x ≡ Err why → Issued v out offset out' (Err why)
   not_issued {why} e =
-      let none : answer out offset v ≡ written.refused (number_of why) = sym told_by ∙ ap written_of e in
+      let none : answer out offset v ≡ written.refused (number_of why) = sym told_by ∙ ap written.answer_of e in
       record { answer = rw none; file = file }
 
 -- An answer with the file's length tells of the verdict.

@@ -6,6 +6,8 @@ use mathlib.Core.Path.{◌≡◌}
 use mathlib.Core.Bool.{true}
 use mathlib.Core.List.{List}
 use lib.ListN.{length, drop, length-map, length-take}
+use Rattle.std.specs.Prelude.{Result}
+use Rattle.fields.specs.declared.Refusal.{Refusal}
 use Rattle.model.specs.Cxl0.{Topology, WellFormed, Event, FirstImpossible}
 use Rattle.model.specs.Meaning.{topology_of}
 use Rattle.model.specs.declared.Topology as topology
@@ -36,7 +38,7 @@ concluded_right (Weighed.Impossible number) done = done.finds
 
 -- A verdict of a verdict file's form that was issued to an output with room is told and written.
 pub issued_whole : (v : Verdict) {out : List ℕ} {offset : ℕ} → room out offset ≡ true → writable v ≡ true
-    → {out' : List ℕ} {j : Judged} → Issued v out offset out' j
+    → {out' : List ℕ} {j : Result Judged Refusal} → Issued v out offset out' j
     → (answer_of j ≡ told v) × (out' ≡ put out offset (file_of v))
 unfolding output
 issued_whole v {out} {offset} fits form issued =
@@ -82,6 +84,6 @@ module _ {t : topology.Topology} {n : ℕ} {w : List ℕ} (can : Weighable t n w
 
   -- Where the output has room, it is told and written.
   pub right_issued : (v : Verdict) → Right sys es v → {out : List ℕ} {offset : ℕ} → room out offset ≡ true
-      → {out' : List ℕ} {j : Judged} → Issued v out offset out' j
+      → {out' : List ℕ} {j : Result Judged Refusal} → Issued v out offset out' j
       → (answer_of j ≡ told v) × (out' ≡ put out offset (file_of v))
   right_issued v right fits issued = issued_whole v fits (right_writable v right) issued

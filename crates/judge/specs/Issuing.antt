@@ -1,5 +1,6 @@
 -- Issuing the verdict that was found: its file is written, and the judge tells of it.
-use Rattle.std.specs.Prelude.{ℕ, ◌+◌, ◌≤◌, ◌<◌, ◌≡◌, List, length}
+use Rattle.std.specs.Prelude.{ℕ, ◌+◌, ◌≤◌, ◌<◌, ◌≡◌, List, length, Result}
+use Rattle.fields.specs.declared.Refusal.{Refusal}
 use Rattle.verdict_file.specs.Files.{Verdict, allowed, impossible}
 use Rattle.verdict_file.specs.Answers as written
 use Rattle.verdict_file.specs.Writing.{answer, output}
@@ -25,6 +26,6 @@ tells (written.gives n) v = told v
 tells (written.refused number) v = refused number
 
 -- The judge tells what the writer of the verdict's file answered, and the output is as the writer leaves it.
-pub record Issued (v : Verdict) (out : List ℕ) (offset : ℕ) (out' : List ℕ) (j : Judged) : Type 0 where
+pub record Issued (v : Verdict) (out : List ℕ) (offset : ℕ) (out' : List ℕ) (j : Result Judged Refusal) : Type 0 where
   pub answer : answer_of j ≡ tells (answer out offset v) v
   pub file : out' ≡ output out offset v

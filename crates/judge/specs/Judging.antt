@@ -1,6 +1,7 @@
 -- What the judge answers and leaves (document 01, "Log and verdict bytes" and "Refusals by number").
-use Rattle.std.specs.Prelude.{ℕ, Bool, cond, ◌&&◌, List, leb, length}
+use Rattle.std.specs.Prelude.{ℕ, Bool, cond, ◌&&◌, List, leb, length, Result, Ok, Err}
 use Rattle.fields.specs.Refusals.{number_of}
+use Rattle.fields.specs.declared.Refusal.{Refusal}
 use Rattle.log_bytes.specs.Records.{system_of}
 use Rattle.log_bytes.specs.Reading.{Log, accepted, rejected, read_log}
 use Rattle.verdict_file.specs.Files.{Verdict, allowed, impossible, file_of}
@@ -8,7 +9,8 @@ use Rattle.verdict_file.specs.Verdicts.{verdict_of}
 use Rattle.fields.specs.Put.{put}
 use Rattle.verdict_file.specs.Writing.{room}
 use Rattle.scratch.specs.Clearing.{zeros}
-use Rattle.judge.specs.declared.Judged as judged
+use Rattle.judge.specs.declared.Judged.{Judged}
+use Rattle.judge.specs.declared.Judged.TheVariants.{Allowed, Impossible}
 
 -- A verdict: 1 if allowed or 0 if impossible, the number of the first impossible event or 0, the step count, and the
 -- length of the file; or the number of a refusal alone.
@@ -16,10 +18,10 @@ pub data Answer : Type 0 where
   gives : (verdict event steps len : ℕ) → Answer
   refused : (number : ℕ) → Answer
 
-abbrev pub answer_of : judged.Judged → Answer
-answer_of (judged.Judged.Allowed steps len) = gives 1 0 steps len
-answer_of (judged.Judged.Impossible event len) = gives 0 event 0 len
-answer_of (judged.Judged.Refused why) = Answer.refused (number_of why)
+abbrev pub answer_of : Result Judged Refusal → Answer
+answer_of (Ok (Allowed steps len)) = gives 1 0 steps len
+answer_of (Ok (Impossible event len)) = gives 0 event 0 len
+answer_of (Err why) = refused (number_of why)
 
 -- What the judge tells of a verdict.
 unfoldable pub told : Verdict → Answer
@@ -33,12 +35,12 @@ pub record Outcome : Type 0 where
   pub out : List ℕ
   pub scratch : List ℕ
 
-abbrev pub outcome_of : judged.Judged → (out scratch : List ℕ) → Outcome
+abbrev pub outcome_of : Result Judged Refusal → (out scratch : List ℕ) → Outcome
 outcome_of j out scratch = record { answer = answer_of j; out = out; scratch = scratch }
 
 -- A refusal, with both areas as they were.
 unfoldable pub refusal : ℕ → (out scratch : List ℕ) → Outcome
-refusal number out scratch = record { answer = Answer.refused number; out = out; scratch = scratch }
+refusal number out scratch = record { answer = refused number; out = out; scratch = scratch }
 
 -- A verdict: its file from the offset on, the output outside the file as it was, and the scratch area all zero.
 unfoldable pub verdict : Verdict → (out : List ℕ) (offset : ℕ) (scratch : List ℕ) → Outcome

@@ -15,22 +15,27 @@ use events::load;
 use fields::Refusal;
 use issuing::issue;
 use log_bytes::Head;
-use reader::{Reading, read};
+use reader::read;
 use scratch::{WORDS, clear};
 use verdict_file::filling::has_room;
 use weighing::weigh;
 
-// Allowed, with the step count and the length of the file; impossible, with the number of the first impossible
-// event and the length; or a refusal.
+// Allowed, with the step count and the length of the file; or impossible, with the number of the first impossible
+// event and the length.
 #[derive(Clone, Copy)]
 pub enum Judged {
     Allowed(usize, usize),
     Impossible(u8, usize),
-    Refused(Refusal),
 }
 
 // The verdict on an accepted log.
-fn decide(log: &[u8], head: Head, out: &mut [u8], offset: usize, scratch: &mut [u64]) -> Judged
+fn decide(
+    log: &[u8],
+    head: Head,
+    out: &mut [u8],
+    offset: usize,
+    scratch: &mut [u64],
+) -> Result<Judged, Refusal>
     requires scratch_value { areas_fit out.old offset scratch.old ≡ true }
     requires log_value { (r : Records) × (read_log log.now ≡ accepted r) × (head_of r ≡ head) }
     ensures { outcome_of result out.new scratch.new
@@ -47,18 +52,21 @@ fn decide(log: &[u8], head: Head, out: &mut [u8], offset: usize, scratch: &mut [
 
 // Judges a log: the verdict file goes to the output from the offset on, and the scratch area is all zero after a
 // verdict. A refusal changes neither.
-pub fn judge(log: &[u8], out: &mut [u8], offset: usize, scratch: &mut [u64]) -> Judged
+pub fn judge(
+    log: &[u8],
+    out: &mut [u8],
+    offset: usize,
+    scratch: &mut [u64],
+) -> Result<Judged, Refusal>
     ensures { outcome_of result out.new scratch.new
         ≡ judgement log.now out.old offset scratch.old }
 {
     if !has_room(out.len(), offset) {
-        return Judged::Refused(Refusal::BufferTooShort);
+        return Err(Refusal::BufferTooShort);
     }
     if scratch.len() < WORDS {
-        return Judged::Refused(Refusal::BufferTooShort);
+        return Err(Refusal::BufferTooShort);
     }
-    match read(log) {
-        Reading::Accepted(head) => decide(log, head, out, offset, scratch),
-        Reading::Refused(why) => Judged::Refused(why),
-    }
+    let head = read(log)?;
+    decide(log, head, out, offset, scratch)
 }

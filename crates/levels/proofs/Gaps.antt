@@ -24,7 +24,7 @@ use Rattle.rows.proofs.RowSteps.{effect_fits}
 use Rattle.scratch.specs.Words.{event_in, struct_in}
 use Rattle.levels.specs.declared.Task.{Task}
 use Rattle.levels.specs.Stretches.{FAR, Stretch, state_at, Finishes, Onward, Over}
-use Rattle.levels.specs.Tasks.{reads_at, accepting, Tasked, Ready, LevelAt, BelowAt, OnwardOf}
+use Rattle.levels.specs.Tasks.{reads_at, Tasked, Ready, LevelAt, BelowAt, OnwardOf}
 use Rattle.levels.proofs.Levels.{Writes, Below, MovesBelow, level_inner, level_end}
 use Rattle.levels.proofs.Tasks.{stretch_owner, stretch_named, stretch_low_last, stretch_low_back}
 
@@ -46,19 +46,7 @@ pays_not true x level l e = ltb-false x level e
 pays_not false x level l e = l
 
 module _ {task : Task} {t : ℕ} {w : List ℕ} (ready : Ready task t w) (level : ℕ) where
-  -- The last gap.
-  pub onward_end : (rest r : ℕ) → t ≡ task.end
-      → Exactly r (λ c. T (accepting task.closing (reads_at task task.end) c) × (task.last ≤ level))
-      → OnwardOf task t level w rest r
-  onward_end rest r last m q s next c h =
-      Iff.trans (m c h) (
-        λ (a, l). inl (rw s.end last, rw (s.accepts c) a, rw s.last l),
-        ⊎_elim
-            (λ (e, a, l). (rw (s.accepts c) at a, rw s.last at l))
-            (λ p. absurd (omega (arith, p.0, s.end))),
-      )
-
-  -- Another gap.
+  -- A gap before the last one.
   pub onward_inner : (rest r : ℕ) → t < task.end → Over (meant (struct_in w t)) (reads_at task t) rest r
       → OnwardOf task t level w rest r
   unfolding event_in

@@ -14,7 +14,7 @@ use Rattle.model.proofs.Tests.{by_test, ne_test}
 use Rattle.masks.specs.Sets.{In}
 use Rattle.masks.proofs.Sets.{in_none}
 use Rattle.scratch.specs.Layout.{LEVELS}
-use Rattle.scratch.proofs.Frames.{only_none, only_set, only_then, only_wider, get_or_below}
+use Rattle.scratch.proofs.Frames.{only_set, only_then, only_wider, get_or_below}
 use Rattle.levels.specs.declared.Task.{Task}
 use Rattle.levels.specs.Stretches.{Stretch, Finishes}
 use Rattle.levels.specs.Tasks.{level_in, below_in, Tasked, Ready, Leveled, LevelAt, BelowAt, GapOf}
@@ -77,18 +77,6 @@ module _ (task : Task) (from level : ℕ) (w : List ℕ) (ready : Ready task fro
       → BelowAt task level q g (below_in task level w g)
   below_at (inl e) g a b = inl (e, rw (eq-eqb level task.low e))
   below_at (inr (l, m)) g a b = inr (l, rw (ne_eqb level task.low (λ e. omega arith)) (m g a b))
-
-  -- Behind the last gap.
-  pub passing_none : Passing task from level w (task.end + 1) 0 false w
-  passing_none =
-      record {
-        least = omega (arith, ready.order);
-        most = le_refl (task.end + 1);
-        frame = only_none (LEVELS + (task.end + 1)) (LEVELS + (task.end + 1)) w;
-        first = λ b. absurd (omega arith);
-        levels = λ q s u t a b. absurd (omega (arith, s.end));
-        same = λ e u a b. absurd (omega arith);
-      }
 
   module _ (t rest : ℕ) (more : Bool) (w' : List ℕ) (p : Passing task from level w t rest more w') where
     -- What has changed lies within the gaps of the pass.

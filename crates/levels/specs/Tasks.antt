@@ -6,6 +6,8 @@ use Rattle.rows.specs.Sites.{Known}
 use Rattle.scratch.specs.Layout.{WORDS, MOST, LEVELS, BACKS, OnlyIn}
 use Rattle.scratch.specs.Words.{event_in, struct_in}
 use Rattle.levels.specs.Stretches.{FAR, Stretch, Finishes, Onward, Inner}
+use Rattle.levels.specs.declared.Closing.{Closing}
+use Rattle.levels.specs.declared.Closing.TheVariants.{Open, Same, Other}
 use Rattle.levels.specs.declared.Task.{Task}
 
 -- The mask of gap t, and what is left to pay after a write-back there.
@@ -23,10 +25,12 @@ reads_at task t = cond (leb t task.reset) task.same task.later
 abbrev pub back_at : Task → List ℕ → ℕ → ℕ
 back_at task w t = cond task.writes (back_in w t) FAR
 
--- The codes that the event after the last gap accepts. 0: it asks nothing, or there is none; 1: it reads the value of
--- the copies; 2: it reads another value.
-abbrev pub accepting : (closing : ℕ) → (reads : Bool) → ℕ → Bool
-accepting closing reads c = cond (eqb closing 0) true (cond (eqb closing 1) (not (eqb c 0) || reads) (eqb c 0))
+-- The codes that the event after the last gap accepts. Open: it reads nothing, or there is none; Same: it reads the
+-- value of the copies; Other: it reads another value.
+abbrev pub accepting : Closing → (reads : Bool) → ℕ → Bool
+accepting Open reads c = true
+accepting Same reads c = not (eqb c 0) || reads
+accepting Other reads c = eqb c 0
 
 -- From gap `from` on, the task is that of the stretch.
 pub record Tasked (task : Task) (from : ℕ) (w : List ℕ) (q : Stretch) : Type 0 where

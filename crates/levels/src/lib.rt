@@ -20,15 +20,31 @@ use masks::{
 use model::{Event, Machine};
 use scratch::{BACKS, LEVELS, get_event};
 
-// More than any number of steps: what stands for it where there is no run.
+// Where there is no run: more than any number of steps. It is a number and no Option, since the numbers of steps are
+// packed in 16 bits each, and compared.
 pub const FAR: u64 = 65535;
 
-// How a stretch closes: with an event that asks nothing, or none; that reads the value of the copies; another one.
-pub const OPEN: u8 = 0;
+// How a stretch closes: with an event that reads nothing, or with none; with a read of the value of the copies; with a
+// read of another value.
+#[derive(Clone, Copy, PartialEq, Eq)]
+pub enum Closing {
+    Open,
+    Same,
+    Other,
+}
 
-pub const SAME: u8 = 1;
-
-pub const OTHER: u8 = 2;
+impl Closing {
+    // The closing event accepts the code at a gap where memory has the value of the copies, or not.
+    pub fn accepts(self, reads: bool, code: u8) -> bool
+        ensures { result ≡ accepting self reads code }
+    {
+        match self {
+            Closing::Open => true,
+            Closing::Same => code != 0 || reads,
+            Closing::Other => code == 0,
+        }
+    }
+}
 
 // The gaps up to `end`, and how the stretch closes there; whether memory has the value of the copies, up to the gap
 // `reset` and after it; whether copies may be written back; what is to pay after the last gap; and bounds of the
@@ -37,7 +53,7 @@ pub const OTHER: u8 = 2;
 pub struct Task {
     pub owner: Machine,
     pub end: usize,
-    pub closing: u8,
+    pub closing: Closing,
     pub reset: usize,
     pub same: bool,
     pub later: bool,
@@ -61,15 +77,14 @@ fn ending(q: Task, level: u64) -> u64
     if level < q.last {
         return 0;
     }
-    let closing = q.closing;
-    match closing {
-        0 => all(),
-        1 => if reads(q, q.end) {
+    match q.closing {
+        Closing::Open => all(),
+        Closing::Same => if reads(q, q.end) {
             all()
         } else {
             all_but_empty()
         },
-        _ => single(0),
+        Closing::Other => single(0),
     }
 }
 
@@ -127,6 +142,7 @@ fn gap(w: &[u64], q: Task, t: usize, level: u64, rest: u64, under: u64) -> u64
     ensures { GapOf q t level w.now rest under result }
 {
     let reached = onward(w, q, t, level, rest) | one_move(under, q.owner);
+    // One test of both, since a branch for each is slower here.
     if q.writes & (w[BACKS + t] < level) {
         return reached | holding(q.owner);
     }
@@ -138,15 +154,14 @@ fn pass(w: &mut [u64], q: Task, from: usize, level: u64) -> bool
     requires { Passable q from level w.old }
     ensures { Passed q from level w.old result w.new }
 {
-    let mut t = q.end + 1;
     let mut rest: u64 = 0;
     let mut more = false;
-    while from < t {
-        t -= 1;
-        let under = below(&*w, q, t, level);
-        rest = gap(&*w, q, t, level, rest, under);
+    // The end is `q.end + 1` and no `..=q.end`, with which the loop is slower.
+    for t in (from..q.end + 1).rev() {
+        let under = below(w, q, t, level);
+        rest = gap(w, q, t, level, rest, under);
         w[LEVELS + t] = rest;
-        more = more | (rest != under);
+        more |= rest != under;
     }
     more
 }
@@ -156,17 +171,15 @@ pub fn fewest(w: &mut [u64], q: Task, from: usize, c: u8, below: u64) -> u64
     requires { Ready q from w.old × (c < 64) × (below ≤ FAR) }
     ensures { Fewest q from c below w.old result w.new }
 {
-    let mut level = q.low;
-    while level < below {
+    for level in q.low..below {
         let more = pass(w, q, from, level);
         if contains(w[LEVELS + from], c) {
             return level;
         }
         // No code is gained by one step more, nor will one be by any number.
-        if !more & (q.high <= level) {
+        if !more && q.high <= level {
             return FAR;
         }
-        level += 1;
     }
     FAR
 }
@@ -176,9 +189,7 @@ pub fn build(w: &mut [u64], q: Task, from: usize, r: u64)
     requires { Ready q from w.old × (r ≤ FAR) }
     ensures { Built q from r w.old w.new }
 {
-    let mut level = q.low;
-    while level < r {
+    for level in q.low..r {
         pass(w, q, from, level);
-        level += 1;
     }
 }

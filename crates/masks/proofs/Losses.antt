@@ -96,14 +96,21 @@ module _ (m d : ℕ) where
   lost_none = record { last = 0; next = refl; codes = λ t h. (λ i. i, λ i. i) }
 
   -- Machine n goes, if it is in the set.
-  pub lost_more : {n r : ℕ} → Lost m d n r → (r' : ℕ) → Exactly r' (λ t. In (less n d t) r) → Lost m d (suc n) r'
-  lost_more {n} s r' lose =
+  lost_next : {n r : ℕ} → Lost m d n r → (r' : ℕ) → Exactly r' (λ t. In (less n d t) r) → Lost m d (suc n) r'
+  lost_next {n} s r' lose =
       record {
         last = n;
         next = refl;
         codes = λ t h. Iff.trans (lose t h)
             (rw s.next (s.codes (less (suc s.last) d t) (lt_of_le_of_lt (less_le (suc s.last) d t) h)));
       }
+
+  pub lost_more : {n r r' : ℕ} → Lost m d n r → has n d ≡ true → Exactly r' (λ t. In (remove n t) r)
+      → Lost m d (suc n) r'
+  lost_more {r' = r'} s in_d lose = lost_next s r' (rw in_d lose)
+
+  pub lost_stays : {n r : ℕ} → Lost m d n r → has n d ≡ false → Lost m d (suc n) r
+  lost_stays {r = r} s out = lost_next s r (rw out (λ t h. Iff.rfl))
 
   -- After machine 6: without all of the set.
   pub lost_all : {r : ℕ} → Lost m d 7 r → Exactly r (λ t. In (remove_all d t) m)

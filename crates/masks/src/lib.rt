@@ -3,7 +3,8 @@
 // laws in proofs/Sets.antt. Each call is a few shifts and constants; none loops over the codes.
 //
 // Its callers see to it that a machine's number is 1 to 6, that a code is below 64, and that `lowest` is given a mask
-// that is not 0.
+// that is not 0. These are no types with invariants: numbers and codes come as bytes of words and events, and each
+// use would build the type with the proof that its `requires` now asks.
 #![tactic(auto)]
 
 ghost use Rattle.std.specs.Prelude.{◌≡◌, true, cond, not, ◌&&◌, ◌↔◌, ◌≢◌, T, eqb, ℕ, ◌<◌};
@@ -30,17 +31,18 @@ pub fn single(c: u8) -> u64
 }
 
 // Every code.
+#[tactic(auto, unfolding(crate::specs::Sets::every_code))]
 pub fn all() -> u64
     ensures { result ≡ every_code }
 {
-    0xffff_ffff_ffff_ffff
+    u64::MAX
 }
 
 // Every code but 0, which is that of no machine.
 pub fn all_but_empty() -> u64
     ensures { Exactly result (λ t. t ≢ 0) }
 {
-    0xffff_ffff_ffff_fffe
+    !1
 }
 
 // The two sets have a code in common.
@@ -55,7 +57,7 @@ pub fn lowest(m: u64) -> u8
     requires { m ≢ 0 }
     ensures { Least result m }
 {
-    u64::trailing_zeros(m) as u8
+    m.trailing_zeros() as u8
 }
 
 // The code of machine i alone.
@@ -79,8 +81,7 @@ pub fn holding(i: Machine) -> u64
     requires { OneToSix i.0 }
     ensures { Exactly result (λ t. T (has i.0 t)) }
 {
-    let n = i.0;
-    match n {
+    match i.0 {
         1 => 0xaaaa_aaaa_aaaa_aaaa,
         2 => 0xcccc_cccc_cccc_cccc,
         3 => 0xf0f0_f0f0_f0f0_f0f0,
@@ -91,6 +92,7 @@ pub fn holding(i: Machine) -> u64
 }
 
 // The codes of the set that have machine i.
+#[tactic(auto, using(crate::proofs::Sets::in_and))]
 pub fn having(m: u64, i: Machine) -> u64
     requires { OneToSix i.0 }
     ensures { Exactly result (λ t. In t m × T (has i.0 t)) }
@@ -115,6 +117,7 @@ pub fn giving_up(m: u64, i: Machine) -> u64
 }
 
 // The codes that are in the set once they lose machine i, if they have it.
+#[tactic(auto, using(crate::proofs::Shifts::losing))]
 pub fn losing(m: u64, i: Machine) -> u64
     requires { OneToSix i.0 }
     ensures { Exactly result (λ t. In (remove i.0 t) m) }
@@ -124,27 +127,22 @@ pub fn losing(m: u64, i: Machine) -> u64
     without | with
 }
 
-// So it is where the test holds, else the codes of the set.
-fn losing_if(m: u64, yes: bool, i: Machine) -> u64
-    requires { OneToSix i.0 }
-    ensures { Exactly result (λ t. In (cond yes (remove i.0 t) t) m) }
-{
-    if yes { losing(m, i) } else { m }
-}
-
 // The codes that are in the set once they lose those machines of the set of code d that they have.
 pub fn losing_all(m: u64, d: u8) -> u64
     ensures { Exactly result (λ t. In (remove_all d t) m) }
 {
     let mut r = m;
-    for n in 1..7u8 {
+    for n in 1..=6 {
         let i = Machine(n);
-        r = losing_if(r, holds(d, i), i);
+        if holds(d, i) {
+            r = losing(r, i);
+        }
     }
     r
 }
 
 // The codes that are in the set once they gain machine i, if they lack it.
+#[tactic(auto, using(crate::proofs::Shifts::gaining))]
 pub fn gaining(m: u64, i: Machine) -> u64
     requires { OneToSix i.0 }
     ensures { Exactly result (λ t. In (insert i.0 t) m) }
@@ -164,10 +162,11 @@ pub fn one_move(m: u64, k: Machine) -> u64
         return 0;
     }
     let near = gaining(m, k);
-    let mut r: u64 = 0;
-    for n in 1..7u8 {
-        if n != k.0 {
-            r = r | giving_up(near, Machine(n));
+    let mut r = 0;
+    for n in 1..=6 {
+        let i = Machine(n);
+        if i != k {
+            r |= giving_up(near, i);
         }
     }
     r
@@ -181,10 +180,10 @@ fn one_pass(m: u64, k: Machine) -> u64
 {
     let mut r = m;
     let mut near = gaining(m, k);
-    for i in 1..7u8 {
+    for i in 1..=6 {
         let more = giving_up(near, Machine(i));
-        near = near | more;
-        r = r | more;
+        near |= more;
+        r |= more;
     }
     r
 }
@@ -196,11 +195,9 @@ pub fn leading(m: u64, k: Machine) -> u64
     ensures { Exactly result (Leads k.0 m) }
 {
     let others = m | 1;
-    if others == 1 {
-        return m;
+    if others == 1 || others == u64::MAX {
+        m
+    } else {
+        one_pass(m, k)
     }
-    if others == 0xffff_ffff_ffff_ffff {
-        return m;
-    }
-    one_pass(m, k)
 }

@@ -4,7 +4,8 @@ use native.Mathlib.Numerals.{sub-one}
 use native.Mathlib.Nat.{one-mul, pow-suc, le_of_suc-le-suc, lt_of_le_of_lt, lt_of_lt_of_le, mod-eq_of_lt}
 use native.Mathlib.Omega.{arith}
 use mathlib.Core.Path.{◌≡◌, refl, sym, ap, ◌∙◌}
-use mathlib.Core.Bool.{not, not-not}
+use mathlib.Core.Bool.{true, not, not-not}
+use borrow.Author.Tests.{lt-ltb, le-leb}
 use lib.Dec.{eqb, ltb, eqb→eq, ltb→lt, nltb→le}
 use lib.Bits.{bit_and, bit_or, and_step, or_step, and_zero_r, or_zero_r, and_mask, and_le_l, and_mod, or_mod}
 use lib.Ieee.Fits.{eq→eqb}
@@ -166,3 +167,12 @@ low_byte c n h = rw (shift_byte n h) (and_mask c n)
 
 pub all_byte : (c n : ℕ) → c < 256 → 8 ≤ n → c ≡ c % 2 ^ n
 all_byte c n h l = sym (mod-eq_of_lt (lt_of_lt_of_le h (pow_mono l)))
+
+-- A byte has no bit above those of eight machines or more.
+pub below_byte : (c n : ℕ) → c < 256 → 8 ≤ n → ltb c (2 ^ n) ≡ true
+below_byte c n h l = lt-ltb c (2 ^ n) (lt_of_lt_of_le h (pow_mono l))
+
+-- What shows the bit of one machine, and the bits of the machines 1 to n.
+pub ruleset one_bit = (bit_byte, no_bit, no_bit_above)
+
+pub ruleset low_bits = (shift_byte, low_byte, all_byte, below_byte, le-leb, pow_pos)

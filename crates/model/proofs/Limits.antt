@@ -3,7 +3,7 @@ use Prim.Native.Nat.{ℕ, zero, suc, ◌+◌, ◌≤◌, ◌<◌, min}
 use native.Mathlib.Numerals.{add-one}
 use native.Mathlib.Nat.{le_of_suc-le-suc, not-suc-le-zero}
 use native.Mathlib.Omega.{arith}
-use mathlib.Core.Path.{◌≡◌, sym, ap, ◌∙◌}
+use mathlib.Core.Path.{◌≡◌, refl, sym, ap, ◌∙◌}
 use mathlib.Core.Bool.{Bool, true, false, ◌&&◌}
 use mathlib.Core.List.{List, [], ◌∷◌, map}
 use borrow.Author.Tests.{ltb-false}
@@ -11,6 +11,7 @@ use lib.Dec.{T, leb, ltb, leb→le, ltb→lt, lt→ltb}
 use lib.ListN.{length, get_or, take, drop, drop_of_length-le, length-take, length-map}
 use lib.ListN.{get_or-map, get_or-eq_default}
 use lib.Seq.{get_or-take, drop-cons}
+use Rattle.std.specs.List.{list_all}
 use Rattle.model.specs.Cxl0.{Location, Home, nowhere, Topology, is_machine, is_location, owner, initial, WellFormed}
 use Rattle.model.specs.Meaning.{home_of, topology_of, owners_fit, within_limits}
 use Rattle.model.specs.declared.Home as home
@@ -77,6 +78,9 @@ pub initial_nowhere : (sys : Topology) (x : Location) → is_location sys x ≡ 
 unfolding initial
 initial_nowhere sys x e = ap (λ (h : Home). h.initial) (sym (at_nowhere sys x e))
 
+-- What shows where a location lives.
+pub ruleset homes_found = (mapped, listed_e, home_at, at_nowhere)
+
 -- The locations from number x on: none from the count on, and before it the one in the array and then the rest.
 module _ (t : topology.Topology) (room : length t.homes ≡ 32) (few : t.locations ≤ 32) where
   homes_count : length (topology_of t).homes ≡ t.locations
@@ -90,17 +94,12 @@ module _ (t : topology.Topology) (room : length t.homes ≡ 32) (few : t.locatio
       → drop x (topology_of t).homes ≡ home_of (get_or t.homes x no_home) ∷ drop (x + 1) (topology_of t).homes
   homes_more x h = rw (add-one x, home_at t x h) (drop-cons (topology_of t).homes x nowhere (rw homes_count h))
 
-  -- Their owners fit if that of x does and those of the rest do.
-  pub fit_end : (x : ℕ) → t.locations ≤ x → owners_fit t.machines (drop x (topology_of t).homes) ≡ true
-  unfolding owners_fit
-  fit_end x h = rw (homes_end x h)
-
-  pub fit_more : (x : ℕ) → x < t.locations
-      → (b : Bool) → is_machine (topology_of t) (get_or t.homes x no_home).owner.0 ≡ b
-      → owners_fit t.machines (drop x (topology_of t).homes)
-      ≡ (b && owners_fit t.machines (drop (x + 1) (topology_of t).homes))
-  unfolding owners_fit is_machine topology_of
-  fit_more x h b e = rw (← e, homes_more x h)
+-- The owners of a list of homes fit if the owner of each one is a machine.
+pub fit_all : (n : ℕ) (hs : List home.Home)
+    → owners_fit n (map home_of hs) ≡ list_all (λ h. leb 1 h.owner.0 && leb h.owner.0 n) hs
+unfolding owners_fit
+fit_all n [] = refl
+fit_all n (h ∷ hs) = ap (λ (b : Bool). leb 1 h.owner.0 && leb h.owner.0 n && b) (fit_all n hs)
 
 -- One of owners that fit fits.
 owner_fits : (n : ℕ) (hs : List Home) → T (owners_fit n hs) → (x : ℕ) → x < length hs

@@ -45,7 +45,7 @@ abbrev pub meant : event.Event → Event
 meant e = event_of e.operation e.machine.0 e.location.0 e.value e.written
 
 -- What is asked of an event by its operation number. A number that is no operation's is not possible.
-unfoldable pub attempt_event : topology.Topology → event.Event → State → Outcome
+abbrev pub attempt_event : topology.Topology → event.Event → State → Outcome
 attempt_event t e s =
     cond (is_operation e.operation)
     (attempt t (Cxl0.event (meant e)) s)

@@ -12,11 +12,11 @@ pub const MACHINES: u8 = 6;
 pub const LOCATIONS: usize = 32;
 
 // A machine, numbered from 1.
-#[derive(Clone, Copy)]
+#[derive(Clone, Copy, PartialEq, Eq)]
 pub struct Machine(pub u8);
 
 // A location, numbered from 0.
-#[derive(Clone, Copy)]
+#[derive(Clone, Copy, PartialEq, Eq)]
 pub struct Location(pub u8);
 
 // Where a location lives: its owner, whether its memory differs in kind from its owner's, and the value that it holds
@@ -28,7 +28,7 @@ pub struct Home {
     pub initial: u32,
 }
 
-// Where a location lives that is not listed: at no machine.
+// Where a location lives that is not listed: at no machine. `Topology::home`, which cannot fail, gives it.
 pub const NOWHERE: Home = Home {
     owner: Machine(0),
     differs: false,
@@ -46,7 +46,8 @@ pub struct Topology {
 }
 
 // An event by its operation number; what the operation does not use is ignored. `value` is what was stored or read,
-// `written` what a read-modify-write stored after its read. A set crash has its set in `location`, as in the bytes.
+// `written` what a read-modify-write stored after its read. A set crash has its set in `location`, as in the bytes. The
+// operation is a number and no enum, since every number has an answer: one that is no operation's is not possible.
 #[derive(Clone, Copy)]
 pub struct Event {
     pub operation: u8,

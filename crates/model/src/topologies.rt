@@ -12,60 +12,51 @@ impl Topology {
         requires { self.locations ≤ 32 }
         ensures { result ≡ owners_fit self.machines (topology_of self).homes }
     {
-        let count = self.locations as usize;
-        let mut at: usize = 0;
-        while at < count {
-            let h = self.homes[at];
-            let k = h.owner;
-            if !self.is_machine(k) {
-                return false;
-            }
-            at += 1;
-        }
-        true
+        let listed = &self.homes[..self.locations as usize];
+        listed.iter().all(|home| self.is_machine(home.owner))
     }
 
     // 1 to 6 machines, at most 32 locations, each owned by one of the machines.
+    #[tactic(auto, unfolding(crate::specs::Meaning::within_limits))]
     pub fn within_limits(self) -> bool
         ensures { result ≡ within_limits self }
     {
         let n = self.machines;
         let count = self.locations as usize;
-        let few = (1 <= n) & (n <= MACHINES) & (count <= LOCATIONS);
-        if few { self.owners_fit() } else { false }
+        1 <= n && n <= MACHINES && count <= LOCATIONS && self.owners_fit()
     }
 
+    #[tactic(auto, unfolding(crate::specs::Cxl0::is_machine, crate::specs::Meaning::topology_of))]
     pub fn is_machine(self, i: Machine) -> bool
         ensures { result ≡ is_machine (topology_of self) i.0 }
     {
-        let k = i.0;
-        let n = self.machines;
-        (1 <= k) & (k <= n)
+        1 <= i.0 && i.0 <= self.machines
     }
 
     // No machine above the last one is in the set, so that all of it may crash.
+    #[tactic(auto, unfolding(crate::specs::Cxl0::named, crate::specs::Meaning::topology_of))]
     pub fn are_machines(self, set: u8) -> bool
         ensures { result ≡ named (topology_of self) (event (SetCrash set)) }
     {
         none_above(self.machines, set)
     }
 
+    #[tactic(auto, using(crate::proofs::Limits::listed, crate::proofs::Limits::mapped))]
     pub fn is_location(self, x: Location) -> bool
         ensures { result ≡ is_location (topology_of self) x.0 }
     {
         let at = x.0 as usize;
         let count = self.locations as usize;
-        (at < count) & (at < LOCATIONS)
+        at < count && at < LOCATIONS
     }
 
     // Where a location lives.
+    #[tactic(auto, using(crate::proofs::Limits::homes_found))]
     pub fn home(self, x: Location) -> Home
         ensures { home_of result ≡ get_or (topology_of self).homes x.0 nowhere }
     {
         if self.is_location(x) {
-            let at = x.0 as usize;
-            let h = self.homes[at];
-            h
+            self.homes[x.0 as usize]
         } else {
             NOWHERE
         }
@@ -76,6 +67,6 @@ impl Topology {
         ensures { result ≡ (within_limits self
             && (is_machine (topology_of self) i.0 && is_location (topology_of self) x.0)) }
     {
-        self.within_limits() & (self.is_machine(i) & self.is_location(x))
+        self.within_limits() && self.is_machine(i) && self.is_location(x)
     }
 }

@@ -106,14 +106,7 @@ fn each_exchanged(m: u64, k: Machine) -> u64
 pub fn reach(owner: Machine, code: u8) -> u64
     ensures { Reached owner.0 code result }
 {
-    let k = owner.0;
-    if k < 1 {
-        return 0;
-    }
-    if 6 < k {
-        return 0;
-    }
-    if 63 < code {
+    if owner.0 < 1 || 6 < owner.0 || 63 < code {
         return 0;
     }
     let at = exchanged(code, owner) as usize;

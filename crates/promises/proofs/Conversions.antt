@@ -7,8 +7,10 @@ use mathlib.Core.Bool.{true}
 use mathlib.Core.List.{List, Memᴰ, ◌++◌}
 use lib.ListN.{length, take, drop}
 use lib.Seq.{take-append_seam}
+use Rattle.std.specs.Prelude.{Result}
 use Rattle.model.specs.Cxl0.{Value}
 use Rattle.fields.specs.declared.Edition.TheVariants.{Second}
+use Rattle.fields.specs.declared.Refusal.{Refusal}
 use Rattle.log_bytes.specs.Records.{Records, system_of}
 use Rattle.log_bytes.specs.Bytes.{Bytes, encode}
 use Rattle.log_bytes.specs.Reading.{Log, accepted, rejected, read_log}
@@ -16,7 +18,6 @@ use Rattle.log_bytes.proofs.Checks.{clash}
 use Rattle.converter.specs.Values.{values}
 use Rattle.converter.specs.Converting.{other, in_edition, Conversion, bytes, form_in, in_other, conversion, output_least}
 use Rattle.converter.specs.Converting.{Answer, gives, told, written, answer_of, Converts}
-use Rattle.converter.specs.declared.Converted.{Converted}
 use Rattle.converter.proofs.Conversions.{form_else, too_large, other_read, there_and_back}
 use Rattle.converter.proofs.Answered.{short_output, enough_output, told_refused, told_gives, bytes_of_log}
 use Rattle.replay.specs.Replaying.{replay_log}
@@ -28,7 +29,7 @@ use Rattle.promises.proofs.Judgements
 
 -- ---- one call
 
-module _ (s out : List ℕ) (a : Converted) (out' : List ℕ) (call : Converts s out a out') where
+module _ (s out : List ℕ) (a : Result ℕ Refusal) (out' : List ℕ) (call : Converts s out a out') where
   -- The answer and the output by what the call comes to.
   by : (x : Conversion) → conversion s out ≡ x → (answer_of a ≡ told x) × (out' ≡ written x out)
   by x e = (call.answers ∙ ap told e, call.leaves ∙ ap (λ (x : Conversion). written x out) e)
@@ -98,7 +99,7 @@ module _ (s t : List ℕ) (r : Records) (b : Bytes s) (read : read_log s ≡ acc
 
 -- ---- what was written
 
-module _ (s out : List ℕ) (a : Converted) (out' : List ℕ) (call : Converts s out a out') (b : Bytes s) (len : ℕ)
+module _ (s out : List ℕ) (a : Result ℕ Refusal) (out' : List ℕ) (call : Converts s out a out') (b : Bytes s) (len : ℕ)
     (converted : answer_of a ≡ gives len) where
   abbrev t : List ℕ
   t = take len out'
@@ -118,7 +119,7 @@ module _ (s out : List ℕ) (a : Converted) (out' : List ℕ) (call : Converts s
       → read_log t ≡ accepted (in_edition (other r.edition) r)
   converted_read r read = form_read s t r b read form
 
-  pub converted_back : (back : List ℕ) (c : Converted) (back' : List ℕ) → Converts t back c back'
+  pub converted_back : (back : List ℕ) (c : Result ℕ Refusal) (back' : List ℕ) → Converts t back c back'
       → output_least ≤ length back
       → (answer_of c ≡ gives (length s)) × (back' ≡ s ++ drop (length s) back)
   converted_back back c back' again enough =
@@ -132,10 +133,10 @@ module _ (s out : List ℕ) (a : Converted) (out' : List ℕ) (call : Converts s
   converted_judged = let (r, read) = log in form_judged s t r b read form
 
   -- Two calls of the judge, one for each edition.
-  module _ (area : List ℕ) (offset : ℕ) (scratch : List ℕ) (j : Judged) (area' scratch' : List ℕ)
+  module _ (area : List ℕ) (offset : ℕ) (scratch : List ℕ) (j : Result Judged Refusal) (area' scratch' : List ℕ)
       (first : outcome_of j area' scratch' ≡ judgement s area offset scratch)
       (fit : areas_fit area offset scratch ≡ true)
-      (room : List ℕ) (at : ℕ) (words : List ℕ) (k : Judged) (room' words' : List ℕ)
+      (room : List ℕ) (at : ℕ) (words : List ℕ) (k : Result Judged Refusal) (room' words' : List ℕ)
       (second : outcome_of k room' words' ≡ judgement t room at words) (fits : areas_fit room at words ≡ true) where
     pub same_answer : judging.answer_of j ≡ judging.answer_of k
     unfolding system_of

@@ -8,10 +8,12 @@ use mathlib.Core.List.{List, ◌++◌, append_assoc}
 use lib.Dec.{leb→le}
 use lib.ListN.{length, take, drop, length-append}
 use lib.Seq.{take_at, drop_at, length-take-le}
+use Rattle.std.specs.Prelude.{Result}
 use Rattle.model.specs.Cxl0.{Action, Run, HasRun, events, silents, count, is_store, is_load}
 use Rattle.model.specs.Schedule.{Step, weave, schedule}
 use Rattle.model.specs.Shortest.{Smaller, Shortest}
 use Rattle.model.proofs.Tests.{true→T}
+use Rattle.fields.specs.declared.Refusal.{Refusal}
 use Rattle.log_bytes.specs.Records.{Records, system_of}
 use Rattle.log_bytes.specs.Reading.{accepted, rejected, read_log}
 use Rattle.verdict_file.specs.Files.{Verdict, allowed, impossible, file_of}
@@ -44,7 +46,7 @@ module _ (l : List ℕ) (at : ℕ) (bytes : List ℕ) (h : at ≤ length l) wher
       drop_at (take at l ++ bytes) (drop (at + length bytes) l) (at + length bytes)
       (length-append (take at l) bytes ∙ ap (λ (n : ℕ). n + length bytes) (length-take-le at l h))
 
-module _ (s out : List ℕ) (offset : ℕ) (scratch : List ℕ) (j : Judged) (out' scratch' : List ℕ)
+module _ (s out : List ℕ) (offset : ℕ) (scratch : List ℕ) (j : Result Judged Refusal) (out' scratch' : List ℕ)
     (judged : outcome_of j out' scratch' ≡ judgement s out offset scratch) where
   -- A refusal, area by area.
   untouched : (number : ℕ) → outcome_of j out' scratch' ≡ refusal number out scratch
@@ -180,10 +182,10 @@ module _ (s out : List ℕ) (offset : ℕ) (scratch : List ℕ) (j : Judged) (ou
 
 -- Two calls for logs of the same system with the same events, each with areas that fit: the verdict is the same, so the
 -- answers are, and the files.
-module _ (s out : List ℕ) (offset : ℕ) (scratch : List ℕ) (j : Judged) (out' scratch' : List ℕ)
+module _ (s out : List ℕ) (offset : ℕ) (scratch : List ℕ) (j : Result Judged Refusal) (out' scratch' : List ℕ)
     (first : outcome_of j out' scratch' ≡ judgement s out offset scratch) (fit : areas_fit out offset scratch ≡ true)
     (r : Records) (read : read_log s ≡ accepted r)
-    (t room : List ℕ) (at : ℕ) (words : List ℕ) (k : Judged) (room' words' : List ℕ)
+    (t room : List ℕ) (at : ℕ) (words : List ℕ) (k : Result Judged Refusal) (room' words' : List ℕ)
     (second : outcome_of k room' words' ≡ judgement t room at words) (fits : areas_fit room at words ≡ true)
     (q : Records) (reads : read_log t ≡ accepted q)
     (system : system_of q ≡ system_of r) (all : q.events ≡ r.events) where
@@ -212,7 +214,8 @@ module _ (s out : List ℕ) (offset : ℕ) (scratch : List ℕ) (j : Judged) (ou
       (rw long at here) ∙ ap file_of same_verdict ∙ sym (rw long' at there)
 
 -- Two calls for the same log and the same areas leave the same.
-pub judge_one : (s out : List ℕ) (offset : ℕ) (scratch : List ℕ) (j k : Judged) (out' scratch' out'' scratch'' : List ℕ)
+pub judge_one : (s out : List ℕ) (offset : ℕ) (scratch : List ℕ) (j k : Result Judged Refusal)
+    → (out' scratch' out'' scratch'' : List ℕ)
     → outcome_of j out' scratch' ≡ judgement s out offset scratch
     → outcome_of k out'' scratch'' ≡ judgement s out offset scratch
     → (answer_of j ≡ answer_of k) × (out' ≡ out'') × (scratch' ≡ scratch'')

@@ -11,6 +11,7 @@ use mathlib.Core.List.{List, [], ◌∷◌, Memᴰ, ◌++◌, map}
 use mathlib.Core.Option.{some}
 use lib.Dec.{T}
 use lib.ListN.{length, take, drop}
+use Rattle.std.specs.Prelude.{Result}
 use Rattle.model.specs.Cxl0.{Machine, Location, Value, MachineSet, Home, Topology, WellFormed, initial, State, start}
 use Rattle.model.specs.Cxl0.{every_machine, cached, Form, Event, Action, event}
 use Rattle.model.specs.Cxl0.{LStore, Load, LFlush, RFlush, Crash, SetCrash, RMW}
@@ -24,6 +25,7 @@ use Rattle.model.specs.MarkedLogs.{AsMarked, logs, pattern_logs, set_crash_logs,
 use Rattle.model.proofs.Theorems
 use Rattle.fields.specs.declared.Edition.{Edition}
 use Rattle.fields.specs.declared.Edition.TheVariants.{First, Second}
+use Rattle.fields.specs.declared.Refusal.{Refusal}
 use Rattle.log_bytes.specs.Records.{Records, system_of, WithinLimits}
 use Rattle.log_bytes.specs.Bytes.{Bytes, field, encode, ShortRows, NoKindBytes}
 use Rattle.log_bytes.specs.Payloads.{Numbers, event_with}
@@ -31,11 +33,10 @@ use Rattle.log_bytes.specs.Reading.{Given, Outcome, nothing, admit, read_fields,
 use Rattle.log_bytes.proofs.OneForm
 use Rattle.log_bytes.proofs.Owned
 use Rattle.log_bytes.proofs.ShortRows.{short_rows_zero, short_rows_kinds, no_kind_bytes_kinds}
+use Rattle.log_bytes.specs.declared.Head.{Head}
 use Rattle.reader.specs.Answers as read
-use Rattle.reader.specs.declared.Reading.{Reading}
 use Rattle.recorder.specs.Recording as recording
 use Rattle.recorder.specs.Recording.{Call, Handed, recorded_of, Sequence}
-use Rattle.recorder.specs.declared.Recorded.{Recorded}
 use Rattle.recorder.proofs.Sequences
 use Rattle.cursors.specs.Cursors.{first_of}
 use Rattle.cursors.specs.Calls.{HomeCalls, EventCalls}
@@ -43,7 +44,6 @@ use Rattle.cursors.proofs.Called
 use Rattle.converter.specs.Values.{values}
 use Rattle.converter.specs.Converting as converting
 use Rattle.converter.specs.Converting.{other, in_edition, Converts}
-use Rattle.converter.specs.declared.Converted.{Converted}
 use Rattle.verdict_file.specs.Files.{allowed, impossible, file_of}
 use Rattle.verdict_file.specs.Verdicts.{verdict_of}
 use Rattle.replay.specs.Replaying as replaying
@@ -74,7 +74,7 @@ pub accepted_exactly : (s : List ℕ) → Bytes s → (r : Records)
 accepted_exactly = OneForm.accepted_iff
 
 -- What `read` answered, as its contract ensures it.
-module _ (s : List ℕ) (a : Reading) (answered : read.meaning_of a ≡ read.summary_of (read_log s)) where
+module _ (s : List ℕ) (a : Result Head Refusal) (answered : read.meaning_of a ≡ read.summary_of (read_log s)) where
   -- A refused log gives its number.
   pub read_refused : (number : ℕ) → read_log s ≡ rejected number → read.meaning_of a ≡ read.refused number
   read_refused = Readings.read_refused s a answered
@@ -111,7 +111,7 @@ module _ (s : List ℕ) (b : Bytes s) (r : Records) (read : read_log s ≡ accep
   cursors_only = rw begins (Called.only_records s b r read)
 
 -- What `record` answered, and the buffer afterwards, as its contract ensures them.
-module _ (buf : List ℕ) (used tag : ℕ) (payload : List ℕ) (a : Recorded) (buf' : List ℕ)
+module _ (buf : List ℕ) (used tag : ℕ) (payload : List ℕ) (a : Result ℕ Refusal) (buf' : List ℕ)
     (call : Call buf used tag payload a buf') where
   -- A refusal leaves every byte of the buffer as it was.
   pub record_refused : (number : ℕ) → recording.answer_of a ≡ recording.rejected number → buf' ≡ buf
@@ -155,7 +155,7 @@ module _ (buf : List ℕ) (used tag : ℕ) (payload : List ℕ) (a : Recorded) (
         record_no_room = Recordings.record_no_room buf used tag payload a buf' call inside r so_far stands
 
 -- What `convert` answered, and the output afterwards, as its contract ensures them.
-module _ (s out : List ℕ) (a : Converted) (out' : List ℕ) (call : Converts s out a out') where
+module _ (s out : List ℕ) (a : Result ℕ Refusal) (out' : List ℕ) (call : Converts s out a out') where
   -- A refusal leaves every byte of the output as it was.
   pub convert_untouched : (number : ℕ) → converting.answer_of a ≡ converting.Answer.refused number → out' ≡ out
   convert_untouched = Conversions.convert_untouched s out a out' call
@@ -185,7 +185,7 @@ module _ (s out : List ℕ) (a : Converted) (out' : List ℕ) (call : Converts s
       convert_writes = Conversions.convert_writes s out a out' call enough b r read
 
 -- What `judge` answered, and the areas afterwards, as its contract ensures them.
-module _ (s out : List ℕ) (offset : ℕ) (scratch : List ℕ) (j : Judged) (out' scratch' : List ℕ)
+module _ (s out : List ℕ) (offset : ℕ) (scratch : List ℕ) (j : Result Judged Refusal) (out' scratch' : List ℕ)
     (judged : outcome_of j out' scratch' ≡ judgement s out offset scratch) where
   -- Areas that are too short give 1, whatever the log, and both stay as they were.
   pub judge_short : areas_fit out offset scratch ≡ false
@@ -223,7 +223,7 @@ pub recorded_read : {buf buf' : List ℕ} {used : ℕ} {hs : List Handed} → Se
 recorded_read = Sequences.recorded_read
 
 -- Where `convert` gives a length, so many bytes of the output are the log in the other edition.
-module _ (s out : List ℕ) (a : Converted) (out' : List ℕ) (call : Converts s out a out') (b : Bytes s) (len : ℕ)
+module _ (s out : List ℕ) (a : Result ℕ Refusal) (out' : List ℕ) (call : Converts s out a out') (b : Bytes s) (len : ℕ)
     (converted : converting.answer_of a ≡ converting.gives len) where
   -- They are read as the same records in the other edition.
   pub converted_read : (r : Records) → read_log s ≡ accepted r
@@ -231,7 +231,7 @@ module _ (s out : List ℕ) (a : Converted) (out' : List ℕ) (call : Converts s
   converted_read = Conversions.converted_read s out a out' call b len converted
 
   -- There and back gives the same bytes.
-  pub converted_back : (back : List ℕ) (c : Converted) (back' : List ℕ) → Converts (take len out') back c back'
+  pub converted_back : (back : List ℕ) (c : Result ℕ Refusal) (back' : List ℕ) → Converts (take len out') back c back'
       → 4096 ≤ length back
       → (converting.answer_of c ≡ converting.gives (length s)) × (back' ≡ s ++ drop (length s) back)
   converted_back = Conversions.converted_back s out a out' call b len converted
@@ -246,7 +246,7 @@ module _ (s out : List ℕ) (a : Converted) (out' : List ℕ) (call : Converts s
   converted_judged = Conversions.converted_judged s out a out' call b len converted
 
 -- What `replay` answered, as its contract ensures it.
-module _ (s f : List ℕ) (a : Replayed) (replayed : replay.answer_of a ≡ replay_log s f) where
+module _ (s f : List ℕ) (a : Result Replayed Refusal) (replayed : replay.answer_of a ≡ replay_log s f) where
   -- A refused log gives its number, whatever the file.
   pub replay_log_refused : (number : ℕ) → read_log s ≡ rejected number
       → replay.answer_of a ≡ replaying.Answer.refused number
@@ -298,7 +298,7 @@ module _ (s f : List ℕ) (a : Replayed) (replayed : replay.answer_of a ≡ repl
 -- ==== Demand 3: allowed and impossible
 
 -- What `judge` answered to an accepted log, with areas that fit.
-module _ (s out : List ℕ) (offset : ℕ) (scratch : List ℕ) (j : Judged) (out' scratch' : List ℕ)
+module _ (s out : List ℕ) (offset : ℕ) (scratch : List ℕ) (j : Result Judged Refusal) (out' scratch' : List ℕ)
     (judged : outcome_of j out' scratch' ≡ judgement s out offset scratch) (fit : areas_fit out offset scratch ≡ true)
     (r : Records) (read : read_log s ≡ accepted r) where
   -- Allowed exactly when some choice of silent steps, any number, anywhere, makes a run of all events.
@@ -381,18 +381,19 @@ module _ (s out : List ℕ) (offset : ℕ) (scratch : List ℕ) (j : Judged) (ou
 
 -- So nothing is left to the program: two calls of `judge` on the same log, with areas of the same contents, give the
 -- same answer and leave the same bytes.
-pub judge_one : (s out : List ℕ) (offset : ℕ) (scratch : List ℕ) (j k : Judged) (out' scratch' out'' scratch'' : List ℕ)
+pub judge_one : (s out : List ℕ) (offset : ℕ) (scratch : List ℕ) (j k : Result Judged Refusal)
+    → (out' scratch' out'' scratch'' : List ℕ)
     → outcome_of j out' scratch' ≡ judgement s out offset scratch
     → outcome_of k out'' scratch'' ≡ judgement s out offset scratch
     → (answer_of j ≡ answer_of k) × (out' ≡ out'') × (scratch' ≡ scratch'')
 judge_one = Judgements.judge_one
 
 -- What `judge` answered to a log and to what `convert` made of it, with areas that fit.
-module _ (s out : List ℕ) (a : Converted) (out' : List ℕ) (call : Converts s out a out') (b : Bytes s) (len : ℕ)
+module _ (s out : List ℕ) (a : Result ℕ Refusal) (out' : List ℕ) (call : Converts s out a out') (b : Bytes s) (len : ℕ)
     (converted : converting.answer_of a ≡ converting.gives len)
-    (area : List ℕ) (offset : ℕ) (scratch : List ℕ) (j : Judged) (area' scratch' : List ℕ)
+    (area : List ℕ) (offset : ℕ) (scratch : List ℕ) (j : Result Judged Refusal) (area' scratch' : List ℕ)
     (first : outcome_of j area' scratch' ≡ judgement s area offset scratch) (fit : areas_fit area offset scratch ≡ true)
-    (room : List ℕ) (at : ℕ) (words : List ℕ) (k : Judged) (room' words' : List ℕ)
+    (room : List ℕ) (at : ℕ) (words : List ℕ) (k : Result Judged Refusal) (room' words' : List ℕ)
     (second : outcome_of k room' words' ≡ judgement (take len out') room at words)
     (fits : areas_fit room at words ≡ true) where
   -- The answer is the same in both editions, and so are the bytes of the file, wherever it was put.
@@ -473,7 +474,7 @@ pub case_4 : let s : List ℕ =
     (read_log s ≡ accepted r)
     × (verdict_of (system_of r) es ≡ allowed ps)
     × ((acts : List Action) → events acts ≡ es → Run (system_of r) acts → schedule acts ≡ ps)
-    × ((out : List ℕ) (offset : ℕ) (scratch : List ℕ) (j : Judged) (out' scratch' : List ℕ)
+    × ((out : List ℕ) (offset : ℕ) (scratch : List ℕ) (j : Result Judged Refusal) (out' scratch' : List ℕ)
     → areas_fit out offset scratch ≡ true → outcome_of j out' scratch' ≡ judgement s out offset scratch
     → (answer_of j ≡ gives 1 0 1 14)
     × (take 14 (drop offset out')
@@ -493,7 +494,7 @@ pub case_5 : let s : List ℕ =
     let r : Records = record { edition = First; machines = 2; persistent = 3; homes = filled 2 0 ∷ []; events = es } in
     (read_log s ≡ accepted r)
     × (verdict_of (system_of r) es ≡ impossible 4)
-    × ((out : List ℕ) (offset : ℕ) (scratch : List ℕ) (j : Judged) (out' scratch' : List ℕ)
+    × ((out : List ℕ) (offset : ℕ) (scratch : List ℕ) (j : Result Judged Refusal) (out' scratch' : List ℕ)
     → areas_fit out offset scratch ≡ true → outcome_of j out' scratch' ≡ judgement s out offset scratch
     → (answer_of j ≡ gives 0 4 0 8)
     × (take 8 (drop offset out') ≡ 0x10 ∷ 0x02 ∷ 0x00 ∷ 0x00 ∷ 0x04 ∷ 0x04 ∷ 0x00 ∷ 0x00 ∷ []))

@@ -4,16 +4,18 @@ use mathlib.Core.Path.{◌≡◌, refl, sym, ap, ◌∙◌}
 use mathlib.Core.Logic.{◌↔◌}
 use mathlib.Core.List.{List}
 use lib.ListN.{length}
+use Rattle.std.specs.Prelude.{Result}
 use Rattle.fields.specs.declared.Edition.{Edition}
+use Rattle.fields.specs.declared.Refusal.{Refusal}
 use Rattle.log_bytes.specs.Records.{Records, WithinLimits}
 use Rattle.log_bytes.specs.Bytes.{Bytes, encode}
 use Rattle.log_bytes.specs.Reading.{Log, accepted, rejected, read_log}
 use Rattle.log_bytes.proofs.Checks.{clash}
 use Rattle.log_bytes.proofs.OneForm.{accepted_iff}
+use Rattle.log_bytes.specs.declared.Head.{Head}
 use Rattle.reader.specs.Answers.{holds, refused, meaning_of, summary_of}
-use Rattle.reader.specs.declared.Reading.{Reading}
 
-module _ (s : List ℕ) (a : Reading) (answered : meaning_of a ≡ summary_of (read_log s)) where
+module _ (s : List ℕ) (a : Result Head Refusal) (answered : meaning_of a ≡ summary_of (read_log s)) where
   pub read_refused : (number : ℕ) → read_log s ≡ rejected number → meaning_of a ≡ refused number
   read_refused number e = answered ∙ ap summary_of e
 

@@ -3,15 +3,16 @@ use Prim.Native.Nat.{ℕ, ◌+◌, ◌≤◌, ◌<◌}
 use mathlib.Core.Path.{◌≡◌, sym, ap, ◌∙◌}
 use mathlib.Core.List.{List, ◌++◌}
 use lib.ListN.{length, take, drop}
+use Rattle.std.specs.Prelude.{Result}
+use Rattle.fields.specs.declared.Refusal.{Refusal}
 use Rattle.log_bytes.specs.Records.{Records}
 use Rattle.log_bytes.specs.Bytes.{field}
 use Rattle.log_bytes.specs.Reading.{refused, unfinished, ended, refusal, nothing, admit, read_fields}
 use Rattle.recorder.specs.Recording as recording
 use Rattle.recorder.specs.Recording.{count, rejected, answer_of, recorded, written, Call}
-use Rattle.recorder.specs.declared.Recorded.{Recorded}
 use Rattle.recorder.proofs.Answers
 
-module _ (buf : List ℕ) (used tag : ℕ) (payload : List ℕ) (a : Recorded) (buf' : List ℕ)
+module _ (buf : List ℕ) (used tag : ℕ) (payload : List ℕ) (a : Result ℕ Refusal) (buf' : List ℕ)
     (call : Call buf used tag payload a buf') where
   -- The definition's answer, where the call's is known, and the buffer by it.
   says : {o : recording.Recorded} → answer_of a ≡ o → recorded buf used tag payload ≡ o

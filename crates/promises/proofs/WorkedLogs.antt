@@ -10,6 +10,7 @@ use mathlib.Core.List.{List, [], ◌∷◌, flat_map, Memᴰ}
 use mathlib.Core.Option.{none, some}
 use lib.Dec.{T}
 use lib.ListN.{take, drop}
+use Rattle.std.specs.Prelude.{Result}
 use Rattle.model.specs.Cxl0.{is_machine, is_location, owner, initial, keeps, is_persistent, start, some_machine}
 use Rattle.model.specs.Cxl0.{every_machine, cached, crashes, clears, named, enabled, next, possible, runs}
 use Rattle.model.specs.Cxl0.{Topology, Event, LStore, Load, LFlush, RFlush, Crash, Action, Run, events}
@@ -28,6 +29,7 @@ use Rattle.fields.specs.Uses.{uses}
 use Rattle.fields.specs.Numbers.{bytes_of, number_in}
 use Rattle.fields.specs.Fields.{length_in}
 use Rattle.fields.specs.declared.Edition.TheVariants.{First}
+use Rattle.fields.specs.declared.Refusal.{Refusal}
 use Rattle.log_bytes.specs.Records.{Records, system_of}
 use Rattle.log_bytes.specs.Bytes.{field}
 use Rattle.log_bytes.specs.Payloads.{edition_of, length_fits, operation_fits, has_initial, has_kind, home_in, numbers_in}
@@ -156,7 +158,7 @@ only_4 acts of run =
 
 -- ---- what the judge answers and writes
 
-module _ (out : List ℕ) (offset : ℕ) (scratch : List ℕ) (j : Judged) (out' scratch' : List ℕ)
+module _ (out : List ℕ) (offset : ℕ) (scratch : List ℕ) (j : Result Judged Refusal) (out' scratch' : List ℕ)
     (fit : areas_fit out offset scratch ≡ true) where
   pub judged_4 : outcome_of j out' scratch' ≡ judgement (bytes 5) out offset scratch
       → (answer_of j ≡ gives 1 0 1 14)

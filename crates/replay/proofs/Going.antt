@@ -1,5 +1,5 @@
 -- How a replay goes on: what is next in the log and the schedule, and what it comes to.
-use Prim.Native.Nat.{ℕ, zero, suc, ◌+◌, ◌-◌, ◌≤◌, ◌<◌}
+use Prim.Native.Nat.{ℕ, zero, suc, ◌+◌, ◌≤◌, ◌<◌}
 use native.Mathlib.Numerals.{add-one}
 use native.Mathlib.Omega.{arith}
 use mathlib.Core.Path.{◌≡◌, refl, sym, ap, ◌∙◌, subst}
@@ -9,6 +9,8 @@ use mathlib.Core.List.{List, [], ◌∷◌}
 use mathlib.Core.Option.{none, some, some-injective}
 use lib.Dec.{T}
 use lib.ListN.{length, drop}
+use Rattle.std.specs.Prelude.{Option, Some, None}
+use Rattle.std.specs.Option.{IsSomeAnd}
 use Rattle.model.specs.Cxl0 as cxl0
 use Rattle.model.specs.Cxl0.{Event, Action, event, silent, Propagate, WriteBack, possible, next}
 use Rattle.model.specs.Operations.{is_operation}
@@ -72,11 +74,15 @@ one_action t w n act acts s a o e h =
 
 -- ---- what is next
 
+-- What follows from P of a value that is there holds of it.
+some_then : {A : Type 0} {P Q : A → Type 0} (r : Option A) → IsSomeAnd r P → ((x : A) → P x → Q x) → IsSomeAnd r Q
+some_then None h f = h
+some_then (Some x) h f = f x h
+
 -- What is asked of the struct of an event that is found is what is asked of the event.
 pub attempted : (t : Topology) (s : List ℕ) (at : ℕ) (d : model.Event) {e : Numbers} {i : ℕ}
     → event_at s at ≡ some (e, i) → numbers_of d ≡ e → (state : cxl0.State)
     → attempt_event t d state ≡ attempt t (event (event_with e)) state
-unfolding attempt_event
 attempted t s at d {e} {i} found same state =
     let known : is_operation d.operation ≡ true =
     ap (λ (x : Numbers). is_operation x.operation) same ∙ operation_found s at e i found in
@@ -133,36 +139,38 @@ module _ {s f : List ℕ} {t : Topology} {n : ℕ} {a : Answer} {k : ℕ} {x : c
           g.events (rw (← position) rest) (omega (arith, g.ahead, ap length e)) g.all order takes
 
   -- The event, where no step is due.
-  event_next : T (in_order (suc w.passed) n g.ps) → 1 ≤ length g.es → (r : Next)
+  event_next : T (in_order (suc w.passed) n g.ps) → 1 ≤ length g.es → (r : Option Next)
       → ((e : Numbers) (i : ℕ) → event_at s w.event ≡ some (e, i) → w.passed < n
-      → Takes t x (event (event_with e)) (w.passed + 1) i w.step r)
-      → Goes s f t n a k x w r
+      → IsSomeAnd r (Takes t x (event (event_with e)) (w.passed + 1) i w.step))
+      → IsSomeAnd r (Goes s f t n a k x w)
   event_next later more r takes = go w.event g.es g.end g.events refl refl
     where
       go : (at : ℕ) (es : List Event) (end : ℕ) → Events s at es end → w.event ≡ at → g.es ≡ es
-          → Goes s f t n a k x w r
+          → IsSomeAnd r (Goes s f t n a k x w)
       go at [] end events x y = absurd (omega (arith, ap length y))
       go at (_ ∷ es) end (next_event e i found events) x y =
           let v = event_with e in
           let low : w.passed < n = omega (arith, g.all) in
-          goes (event v) es g.ps i w.step end g.least r
+          some_then r (takes e i (rw x found) low)
+          (λ next takes.
+          goes (event v) es g.ps i w.step end g.least next
           (rw y (weave_event w.passed n v es g.ps later))
           events g.steps
           (omega (arith, g.ahead, ap length y)) (omega (arith, g.all, ap length y)) g.order
-          (rw add-one at (takes e i (rw x found) low))
+          (rw add-one at takes))
 
   -- What the event comes to, where there is one.
-  abbrev pub Event-takes : Next → Type 0
+  abbrev pub Event-takes : Option Next → Type 0
   Event-takes r =
       (e : Numbers) (i : ℕ) → event_at s w.event ≡ some (e, i) → w.passed < n
-      → Takes t x (event (event_with e)) (w.passed + 1) i w.step r
+      → IsSomeAnd r (Takes t x (event (event_with e)) (w.passed + 1) i w.step)
 
   -- The event, where the next step comes later.
-  pub event_goes : (p : Step) (j : ℕ) (r : Next) → step_at f w.step ≡ some (p, j) → w.passed < p.before
-      → Event-takes r → Goes s f t n a k x w r
+  pub event_goes : (p : Step) (j : ℕ) (r : Option Next) → step_at f w.step ≡ some (p, j) → w.passed < p.before
+      → Event-takes r → IsSomeAnd r (Goes s f t n a k x w)
   event_goes p j r found later takes = go g.ps refl
     where
-      go : (ps : List Step) → g.ps ≡ ps → Goes s f t n a k x w r
+      go : (ps : List Step) → g.ps ≡ ps → IsSomeAnd r (Goes s f t n a k x w)
       go [] e =
           let last = stops f w.step (rw e at g.steps) in
           clash (cc)
@@ -176,22 +184,16 @@ module _ {s f : List ℕ} {t : Topology} {n : ℕ} {a : Answer} {k : ℕ} {x : c
           (omega (arith, g.all, order.1)) r takes
 
   -- The event, where no step is left.
-  pub event_goes_last : (r : Next) → step_at f w.step ≡ none → Event-takes r → Goes s f t n a k x w r
+  pub event_goes_last : (r : Option Next) → step_at f w.step ≡ none → Event-takes r
+      → IsSomeAnd r (Goes s f t n a k x w)
   unfolding in_order
   event_goes_last r absent takes = go g.ps refl
     where
-      go : (ps : List Step) → g.ps ≡ ps → Goes s f t n a k x w r
+      go : (ps : List Step) → g.ps ≡ ps → IsSomeAnd r (Goes s f t n a k x w)
       go [] e = event_next (rw e tt) (omega (arith, g.ahead, ap length e)) r takes
       go (q ∷ qs) e =
           let (first, rest) = walks f w.step (rw e at g.steps) in
           clash (cc)
-
--- Where something is ahead, it is one thing and what remains.
-pub one_ahead : {s f : List ℕ} {t : Topology} {n : ℕ} {a : Answer} {k : ℕ} {x : cxl0.State} {w : Place}
-    → Stands s f t n a k x w → 0 < k → Stands s f t n a (suc (k - 1)) x w
-one_ahead {s} {f} {t} {n} {a} {k} {x} {w} g h =
-    let same : k ≡ suc (k - 1) = omega arith in
-    subst (λ (l : ℕ). Stands s f t n a l x w) same g
 
 -- Where nothing is ahead, the answer is yes.
 pub stands_done : {s f : List ℕ} {t : Topology} {n : ℕ} {a : Answer} {k : ℕ} {x : cxl0.State} {w : Place}

@@ -30,11 +30,10 @@ pub record Stands (s f : List ℕ) (t : Topology) (n : ℕ) (a : Answer) (k : �
   pub order : T (in_order least n ps)
   pub answer : replay_from (topology_of t) w.passed (weave_from w.passed es ps) x ≡ a
 
--- What comes of the next thing in the state x. Nothing is not possible.
+-- What comes of the next thing in the state x.
 abbrev pub taken : Topology → Thing → State → Outcome
 taken t (Thing.Step p) x = attempt t (Cxl0.silent (silent_of (step_of p))) x
 taken t (Thing.Event e) x = attempt_event t e x
-taken t Thing.Nothing x = record { possible = false; state = x }
 
 -- If the next thing is possible, the replay stands at the place after it, with one thing less ahead; if it is not, the
 -- answer is no after the events passed.

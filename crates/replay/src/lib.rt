@@ -16,46 +16,39 @@ ghost use Rattle.replay.specs.Answers.{answer_of};
 use cursors::opening::open;
 use fields::Refusal;
 use log_bytes::Head;
-use reader::{Reading, read};
-use schedules::{FIRST, Scheduled, read_schedule};
+use reader::read;
+use schedules::{FIRST, read_schedule};
 use walking::{Place, walk};
 
-// Yes, or no and the number of events passed before the first thing not possible, or why an input is refused.
+// Yes, or no and the number of events passed before the first thing not possible.
 #[derive(Clone, Copy)]
 pub enum Replayed {
     Yes,
     No(u8),
-    Refused(Refusal),
 }
 
 // Replays an accepted log with this head.
-fn replay_events(log: &[u8], schedule: &[u8], head: Head) -> Replayed
+fn replay_events(log: &[u8], schedule: &[u8], head: Head) -> Result<Replayed, Refusal>
     ensures { (r : Records) → read_log log.now ≡ accepted r → head_of r ≡ head
         → answer_of result
         ≡ with_schedule r (read_schedule (system_of r) (length r.events) schedule.now) }
 {
     let o = open(log, head);
     let t = o.topology;
-    match read_schedule(schedule, t, head.events) {
-        Scheduled::Steps(steps) => {
-            let ahead = head.events as usize + steps;
-            let start = Place {
-                passed: 0,
-                event: o.events,
-                step: FIRST,
-            };
-            walk(log, schedule, t, head.events, ahead, start)
-        }
-        Scheduled::Refused(why) => Replayed::Refused(why),
-    }
+    let steps = read_schedule(schedule, t, head.events)?;
+    let ahead = head.events as usize + steps;
+    let start = Place {
+        passed: 0,
+        event: o.events,
+        step: FIRST,
+    };
+    Ok(walk(log, schedule, t, head.events, ahead, start))
 }
 
-// Says whether a log with a schedule is a run.
-pub fn replay(log: &[u8], schedule: &[u8]) -> Replayed
+// Says whether a log with a schedule is a run, or why an input is refused.
+pub fn replay(log: &[u8], schedule: &[u8]) -> Result<Replayed, Refusal>
     ensures { answer_of result ≡ replay_log log.now schedule.now }
 {
-    match read(log) {
-        Reading::Accepted(head) => replay_events(log, schedule, head),
-        Reading::Refused(why) => Replayed::Refused(why),
-    }
+    let head = read(log)?;
+    replay_events(log, schedule, head)
 }

@@ -30,26 +30,28 @@ module _ (a b : ℕ) (P Q : ℕ → Type 0) (p : Exactly a P) (q : Exactly b Q) 
   pub row_of : (w : Value) → RowOf (λ c m. P c ⊎ (Q c × (m ≡ w))) (row a b w)
   row_of w c m h = Iff.symm (sum_iff (p c h) (Iff.and (q c h) Iff.rfl))
 
--- A row whose sets have the codes with P that `to` takes into the sets of `rest` has the states with P that
--- `to` takes into `rest`.
-pub row_if : (P : ℕ → Type 0) (to : ℕ → ℕ) (rest : Row) (a o : ℕ)
-    → Exactly a (λ c. In (to c) rest.any × P c) → Exactly o (λ c. In (to c) rest.one × P c)
-    → RowOf (λ c m. P c × Fine rest (to c) m) (row a o rest.value)
-row_if P to rest a o any one c m h = (
-  λ p. ⊎_elim (λ q. inl ((any c h).1 (q, p.0))) (λ q. inr ((one c h).1 (q.0, p.0), q.1)) p.1,
-  ⊎_elim
-      (λ p. let q = (any c h).0 p in (q.1, inl q.0))
-      (λ p. let q = (one c h).0 p.0 in (q.1, inr (q.0, p.1))),
-)
+-- A row r with the memory value of `rest`.
+module _ (rest r : Row) (same : r.value ≡ rest.value) (to : ℕ → ℕ) where
+  -- If its sets have the codes that `to` takes into those of `rest`, it has the states that `to` takes into `rest`.
+  pub row_to : Exactly r.any (λ c. In (to c) rest.any) → Exactly r.one (λ c. In (to c) rest.one)
+      → RowOf (λ c m. Fine rest (to c) m) r
+  row_to any one c m h = rw same (Iff.symm (sum_iff (any c h) (Iff.and (one c h) Iff.rfl)))
+
+  -- Of these the row may have only the ones with P.
+  pub row_if : (P : ℕ → Type 0) → Exactly r.any (λ c. In (to c) rest.any × P c)
+      → Exactly r.one (λ c. In (to c) rest.one × P c) → RowOf (λ c m. P c × Fine rest (to c) m) r
+  row_if P any one c m h =
+      rw same (
+        λ p. ⊎_elim (λ q. inl ((any c h).1 (q, p.0))) (λ q. inr ((one c h).1 (q.0, p.0), q.1)) p.1,
+        ⊎_elim
+            (λ p. let q = (any c h).0 p in (q.1, inl q.0))
+            (λ p. let q = (one c h).0 p.0 in (q.1, inr (q.0, p.1))),
+      )
 
 -- The row of a set has its codes at every memory value.
 pub fine_any : (a c m : ℕ) → In c a ↔ Fine (any_row a) c m
 unfolding any_row
 fine_any a c m = (inl, ⊎_elim (λ p. p) (λ p. absurd (in_none c p.0)))
-
--- The row of a set that has exactly the codes with P.
-pub any_of : (a : ℕ) (P : ℕ → Type 0) (r : Row) → Exactly a P → r ≡ any_row a → RowOf (λ c m. P c) r
-any_of a P r p e c m h = rw e (Iff.trans (Iff.symm (p c h)) (fine_any a c m))
 
 -- The row of no codes has no state.
 pub no_state : (P : ℕ → Value → Type 0) (r : Row) → ((c m : ℕ) → ¬ P c m) → r ≡ any_row 0 → RowOf P r
@@ -80,13 +82,10 @@ module _ (rest : Row) where
       ((in_or rest.any rest.one code.0).0 code.1)
 
 module _ (rest : Row) (m : Value) where
-  -- The codes that a row has at its own value, and those that it has at another one.
+  -- The codes that a row has at its own value.
   pub codes_at : rest.value ≡ m → Exactly (bit_or rest.any rest.one) (λ c. Fine rest c m)
   codes_at e c h =
       let union = in_or rest.any rest.one c in (
         λ i. ⊎_elim inl (λ j. inr (j, sym e)) (union.0 i),
         λ f. union.1 (⊎_elim inl (λ j. inr j.0) f),
       )
-
-  pub codes_off : rest.value ≢ m → Exactly rest.any (λ c. Fine rest c m)
-  codes_off n c h = (inl, ⊎_elim (λ i. i) (λ j. absurd (n (sym j.1))))

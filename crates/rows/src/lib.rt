@@ -35,6 +35,22 @@ pub struct Row {
     pub value: u32,
 }
 
+impl Row {
+    // The row with what f makes of each of its two sets.
+    fn map<F: Fn(u64) -> u64>(self, f: F) -> Row
+        requires { F.IsAlwaysCallable f }
+        ensures any { F.post f self.any result.any }
+        ensures one { F.post f self.one result.one }
+        ensures value { result.value ≡ self.value }
+    {
+        Row {
+            any: f(self.any),
+            one: f(self.one),
+            value: self.value,
+        }
+    }
+}
+
 // The set where the test holds, else no code.
 fn only_if(yes: bool, m: u64) -> u64
     ensures { Exactly result (λ t. In t m × (yes ≡ true)) }
@@ -43,6 +59,7 @@ fn only_if(yes: bool, m: u64) -> u64
 }
 
 // Every code where the test holds, else none.
+#[tactic(auto, using(masks::proofs::Constants::in_every))]
 fn all_if(yes: bool) -> u64
     ensures { Exactly result (λ t. yes ≡ true) }
 {
@@ -50,6 +67,7 @@ fn all_if(yes: bool) -> u64
 }
 
 // The codes that the row has with memory value m.
+#[tactic(auto, using(crate::proofs::FineRows::codes_at))]
 pub fn codes(row: Row, m: u32) -> u64
     ensures { Exactly result (λ c. Fine row c m) }
 {
@@ -76,11 +94,12 @@ pub fn is_empty(row: Row) -> bool
 }
 
 // The codes of a set, with every memory value.
+#[tactic(auto, unfolding(crate::specs::Rows::any_row))]
 fn any_row(any: u64) -> Row
     ensures { result ≡ any_row any }
 {
     Row {
-        any: any,
+        any,
         one: 0,
         value: 0,
     }
@@ -98,14 +117,11 @@ fn store_row(rest: Row, t: u8) -> Row
     requires { t < 64 }
     ensures { RowOf (λ c m. Fine rest t m) result }
 {
-    Row {
-        any: all_if(contains(rest.any, t)),
-        one: all_if(contains(rest.one, t)),
-        value: rest.value,
-    }
+    rest.map(|m| all_if(contains(m, t)))
 }
 
 // MStore of v, which leaves no copy.
+#[tactic(auto, using(crate::proofs::FineRows::fine_any), unfolding(crate::specs::Rows::any_row))]
 fn m_store_row(rest: Row, v: u32) -> Row
     ensures { RowOf (λ c m. Fine rest 0 v) result }
 {
@@ -117,12 +133,7 @@ fn load_copies_row(rest: Row, i: Machine) -> Row
     requires { OneToSix i.0 }
     ensures { RowOf (λ c m. (c ≢ 0) × Fine rest (insert i.0 c) m) result }
 {
-    let some = all_but_empty();
-    Row {
-        any: gaining(rest.any, i) & some,
-        one: gaining(rest.one, i) & some,
-        value: rest.value,
-    }
+    rest.map(|m| gaining(m, i) & all_but_empty())
 }
 
 // The states in which a load of v is possible, where copies have the value u: from memory if there is no copy, else
@@ -193,22 +204,25 @@ fn l_flush_row(rest: Row, i: Machine) -> Row
     requires { OneToSix i.0 }
     ensures { RowOf (λ c m. T (not (has i.0 c)) × Fine rest c m) result }
 {
-    Row {
-        any: lacking(rest.any, i),
-        one: lacking(rest.one, i),
-        value: rest.value,
-    }
+    rest.map(|m| lacking(m, i))
 }
 
 // RFlush, when there is no copy.
 fn r_flush_row(rest: Row) -> Row
     ensures { RowOf (λ c m. (c ≡ 0) × Fine rest c m) result }
 {
-    let none = single(0);
-    Row {
-        any: rest.any & none,
-        one: rest.one & none,
-        value: rest.value,
+    rest.map(|m| m & single(0))
+}
+
+// What a crash does to memory: it takes its initial value where it is cleared, and else keeps its own.
+#[tactic(auto, using(crate::proofs::FineRows::fine_any), unfolding(crate::specs::Rows::any_row))]
+fn cleared_row(rest: Row, cleared: bool, initial: u32) -> Row
+    ensures { RowOf (λ c m. Fine rest c (cond cleared initial m)) result }
+{
+    if cleared {
+        any_row(codes(rest, initial))
+    } else {
+        rest
     }
 }
 
@@ -217,28 +231,14 @@ fn crash_row(rest: Row, i: Machine, cleared: bool, initial: u32) -> Row
     requires { OneToSix i.0 }
     ensures { RowOf (λ c m. Fine rest (remove i.0 c) (cond cleared initial m)) result }
 {
-    if cleared {
-        return any_row(losing(codes(rest, initial), i));
-    }
-    Row {
-        any: losing(rest.any, i),
-        one: losing(rest.one, i),
-        value: rest.value,
-    }
+    cleared_row(rest, cleared, initial).map(|m| losing(m, i))
 }
 
 // A crash of the machines of a set, which lose their copies, and the memory too where it is cleared.
 fn set_crash_row(rest: Row, set: u8, cleared: bool, initial: u32) -> Row
     ensures { RowOf (λ c m. Fine rest (remove_all set c) (cond cleared initial m)) result }
 {
-    if cleared {
-        return any_row(losing_all(codes(rest, initial), set));
-    }
-    Row {
-        any: losing_all(rest.any, set),
-        one: losing_all(rest.one, set),
-        value: rest.value,
-    }
+    cleared_row(rest, cleared, initial).map(|m| losing_all(m, set))
 }
 
 // The row closed under the silent steps of a gap in which copies have the value u: moves to the owner, and a
@@ -262,13 +262,7 @@ pub fn concerned(site: Site, e: Event) -> bool
     requires { Known e }
     ensures { result ≡ event_at site.location.0 (meant e) }
 {
-    if site.location.0 == e.location.0 {
-        return true;
-    }
-    if e.operation == 7 {
-        return true;
-    }
-    e.operation == 11
+    site.location == e.location || matches!(e.operation, 7 | 11)
 }
 
 // The row before an event, without the silent steps before it, when copies have the value u before it.
@@ -278,16 +272,15 @@ pub fn row_before(site: Site, e: Event, u: u32, rest: Row) -> Row
     requires closed { Closed (copy_after site.location.0 u (meant e)) rest }
     ensures { RowOf (λ c m. Line (site_meant site) (meant e) u rest c m) result }
 {
-    let operation = e.operation;
     let i = e.machine;
-    match operation {
+    match e.operation {
         1 => store_row(rest, alone(i)),
         2 => store_row(rest, alone(site.owner)),
         3 => m_store_row(rest, e.value),
         4 => load_row(rest, i, u, e.value),
         5 => l_flush_row(rest, i),
         6 => r_flush_row(rest),
-        7 => crash_row(rest, i, (site.owner.0 == i.0) & site.volatile, site.initial),
+        7 => crash_row(rest, i, (site.owner == i) & site.volatile, site.initial),
         8 => rmw_row(rest, alone(i), u, e.value),
         9 => rmw_row(rest, alone(site.owner), u, e.value),
         10 => m_rmw_row(rest, u, e.value, e.written),

@@ -2,7 +2,7 @@
 // values of the copies, and the waypoints of the walk, as specs/Words.antt has them; clearing it.
 //
 // Its callers see to it that the scratch area has at least 4,096 words, an event's number is below 129, and a row's is
-// at most 129.
+// at most 129. The area is a slice and no type of its own, since it is lent by callers in C.
 #![tactic(auto)]
 
 ghost use Rattle.std.specs.Prelude.{◌≡◌, ◌+◌, ◌≤◌, ◌<◌, length};
@@ -103,6 +103,7 @@ pub fn get_event(w: &[u64], j: usize) -> Event
 }
 
 // Row t.
+#[tactic(auto, unfolding(crate::specs::Words::row_in))]
 pub fn get_row(w: &[u64], t: usize) -> Row
     requires { (WORDS ≤ length w.now) × (t ≤ MOST) }
     ensures { result ≡ row_in w.now t }
@@ -127,6 +128,7 @@ pub fn put_row(w: &mut [u64], t: usize, row: Row)
 }
 
 // The value of the copies before event t.
+#[tactic(auto, unfolding(crate::specs::Words::copy_in))]
 pub fn get_copy(w: &[u64], t: usize) -> u32
     requires { (WORDS ≤ length w.now) × (t ≤ MOST) }
     ensures { result ≡ copy_in w.now t }
@@ -143,6 +145,7 @@ pub fn put_copy(w: &mut [u64], t: usize, u: u32)
 }
 
 // The waypoint before event t.
+#[tactic(auto, unfolding(crate::specs::Words::waypoint_in))]
 pub fn get_waypoint(w: &[u64], t: usize) -> Waypoint
     requires { (WORDS ≤ length w.now) × (t < MOST) }
     ensures { result ≡ waypoint_in w.now t }
@@ -167,7 +170,5 @@ pub fn put_waypoint(w: &mut [u64], t: usize, p: Waypoint)
 pub fn clear(w: &mut [u64])
     ensures { w.new ≡ zeros (length w.old) }
 {
-    for i in 0..w.len() {
-        w[i] = 0;
-    }
+    w.fill(0);
 }

@@ -6,7 +6,7 @@ use native.Mathlib.Numerals.{add-one}
 use native.Mathlib.Omega.{arith}
 use mathlib.Core.Path.{◌≡◌, refl, sym, ap, ◌∙◌, subst}
 use mathlib.Core.Logic.{⊎_elim}
-use mathlib.Core.Bool.{true, false, not, true≢false}
+use mathlib.Core.Bool.{true, not}
 use mathlib.Core.List.{List, [], ◌∷◌, append-nil}
 use lib.Dec.{T}
 use Rattle.model.specs.Cxl0.{Location, Value, Topology, Event, event}
@@ -29,9 +29,9 @@ use Rattle.scratch.proofs.Events.{struct_same, event_same, events_same}
 use Rattle.walking.proofs.Trails.{runs_to_none, runs_to_cons}
 use Rattle.walking.proofs.Acting.{acts_next, acts_can}
 use Rattle.walking.proofs.Turns.{elsewhere_runs}
-use Rattle.search.specs.declared.explaining.Onward.{Onward}
+use Rattle.std.specs.Prelude.{Option, None, Some}
 use Rattle.search.specs.Paths.{Led, Path, more, Based, Kept, Retraceable, Retraced}
-use Rattle.search.specs.Paths.{Resumable, Resumed, Stuck, Continuable, Onwards}
+use Rattle.search.specs.Paths.{Regained, Resumable, Resumed, Stuck, Continuable, Onwards}
 use Rattle.search.proofs.Keeping.{kept_then, kept_rows, kept_steps}
 use Rattle.search.proofs.Retracing.{waypoint_same}
 use Rattle.search.proofs.Ready.{ready_kept}
@@ -91,62 +91,67 @@ module _ {s : Site} {t : ℕ} {p : Waypoint} {w : List ℕ} (stuck : Stuck s t p
         memory = (ap (λ (q : Waypoint). q.memory) first ∙ sym (begins d)) i;
       }
 
-  module _ {r : ℕ} {w' : List ℕ} (back : Retraced s (t + 1) w r w') where
+  module _ {found : Option ℕ} {w' : List ℕ} (back : Retraced s (t + 1) w found w') where
     -- The events and the copies are there as before.
     ready_rows : Ready s (suc t) w'
     ready_rows = ready_kept stuck.ready back.frame
 
     -- The path to the waypoint before event r is there as before.
-    based_rows : {base : ℕ} → Based s base w t p → r ≤ t → Based s base w' r (waypoint_in w' r)
-    based_rows b h =
+    based_rows : {r base : ℕ} → Based s base w t p → r ≤ t → Based s base w' r (waypoint_in w' r)
+    based_rows {r} b h =
         let there = path_to b.path stuck.waypoint r h in
         let path = path_rows back.frame.frame (omega (arith, few)) b.low there in
         record { low = b.low; high = b.high; path = rw (waypoint_same back.frame.frame r) path }
 
     -- That waypoint ends no earlier than the path begins.
-    base_below : {base : ℕ} → Based s base w t p → r ≤ t → base ≤ (waypoint_in w' r).end
+    base_below : {r base : ℕ} → Based s base w t p → r ≤ t → base ≤ (waypoint_in w' r).end
     base_below b h = omega (arith, (path_led (based_rows b h).path).here)
 
-    -- The walk can go on from there.
-    pub resumable : r < t + 1 → Resumable s r (t + 1) w'
-    resumable h =
+  -- From waypoint r the walk can go on.
+  module _ {r : ℕ} {w' : List ℕ} (back : Retraced s (t + 1) w (Some r) w') where
+    there : Regained s (t + 1) w w' r
+    there = back.regained
+
+    back_to : r ≤ t
+    back_to = omega (arith, there.below)
+
+    pub resumable : Resumable s r (t + 1) w'
+    resumable =
         let frame = back.frame.frame in
         let events = events_same frame (t + 1) (omega (arith, few)) in
         record {
-          below = h;
-          ready = rw (add-one t) ready_rows;
-          rows = back.rows;
+          below = there.below;
+          ready = rw (add-one t) (ready_rows back);
+          rows = there.rows;
           base = stuck.base;
-          based = based_rows stuck.based (omega arith);
+          based = based_rows back stuck.based back_to;
           system = stuck.system;
           describes = stuck.describes;
           runs = rw (events, waypoint_same frame r, back.frame.copies r)
-              (back.runs h stuck.system stuck.describes);
+              (there.runs stuck.system stuck.describes);
         }
 
     -- The walk has gone back and on again.
-    pub went_back : r < t + 1 → {q : Waypoint} {w'' : List ℕ} → Resumed s r (t + 1) w' q w''
-        → Onwards s t p w (record { found = true; waypoint = q }) w''
-    went_back h resumed =
-        let back_to : r ≤ t = omega arith in
+    pub went_back : {q : Waypoint} {w'' : List ℕ} → Resumed s r (t + 1) w' q w'' → Onwards s t p w (Some q) w''
+    went_back resumed =
         record {
           kept = λ base b. kept_then (kept_rows b.low back.frame.frame)
-              (kept_steps b.low (only_wider resumed.frame (base_below b back_to) (le_refl LOG)));
+              (kept_steps b.low (only_wider resumed.frame (base_below back b back_to) (le_refl LOG)));
           copies = copies_same s.location.0 resumed.frame
-              (le_trans stuck.based.low (base_below stuck.based back_to)) few ready_rows.copies;
-          goes = λ e base b. rw (add-one t) at (resumed.path base (based_rows b back_to));
-          ends = λ e. absurd (true≢false e);
+              (le_trans stuck.based.low (base_below back stuck.based back_to)) few (ready_rows back).copies;
+          goes = λ base b. rw (add-one t) at (resumed.path base (based_rows back b back_to));
+          ends = tt;
         }
 
-    -- From no waypoint can the walk go on.
-    pub went_nowhere : t + 1 ≤ r → Onwards s t p w (record { found = false; waypoint = p }) w'
-    went_nowhere h =
-        record {
-          kept = λ base b. kept_rows b.low back.frame.frame;
-          copies = ready_rows.copies;
-          goes = λ e. absurd (true≢false (sym e));
-          ends = λ e sys d fits. back.ends h sys d (rw (add-one t, first_state sys d) fits);
-        }
+  -- From no waypoint can the walk go on.
+  pub went_nowhere : {w' : List ℕ} → Retraced s (t + 1) w None w' → Onwards s t p w None w'
+  went_nowhere back =
+      record {
+        kept = λ base b. kept_rows b.low back.frame.frame;
+        copies = (ready_rows back).copies;
+        goes = tt;
+        ends = λ sys d fits. back.none sys d (rw (add-one t, first_state sys d) fits);
+      }
 
 -- ---- going on
 
@@ -287,7 +292,7 @@ module _ {s : Site} {t : ℕ} {p : Waypoint} {w w' : List ℕ} (go : Continuable
       → RunsTo sys s.location.0 (event (event_in w t) ∷ [])
       (state p.code u p.memory)
       (state q.code (copy_after s.location.0 u (event_in w t)) q.memory))
-      → Onwards s t p w (record { found = true; waypoint = q }) w'
+      → Onwards s t p w (Some q) w'
   went_on {q} end fits runs =
       let u = copy_from s.location.0 0 (events_in w' t) in
       let copies = begun.stuck.ready.copies in
@@ -296,19 +301,19 @@ module _ {s : Site} {t : ℕ} {p : Waypoint} {w w' : List ℕ} (go : Continuable
       record {
         kept = begun.kept;
         copies = copies;
-        goes = λ e base b.
+        goes = λ base b.
             let path = (begun.based base b).path in
             more {q = q} path begun.stuck.waypoint no_less
             (led_more (path_led path) end fits
             (λ sys d. rw (copies_suc w' s.location.0 t, same) (runs sys d u same_copy)));
-        ends = λ e. absurd (true≢false e);
+        ends = tt;
       }
 
   -- The event that is read.
   module _ {e : Event} (read : e ≡ event_in w t) where
     -- It does not concern the site.
     pub went_elsewhere : T (not (event_at s.location.0 e))
-        → Onwards s t p w (record { found = true; waypoint = p }) w'
+        → Onwards s t p w (Some p) w'
     went_elsewhere away =
         went_on refl (continuable_fits go)
         (λ sys d u same. rw (← read) (elsewhere_runs sys s e away p.code u p.memory))
@@ -317,11 +322,7 @@ module _ {s : Site} {t : ℕ} {p : Waypoint} {w w' : List ℕ} (go : Continuable
     pub went_ahead : {u : Value} → u ≡ copy_in w t → T (event_at s.location.0 e)
         → {made : Acted} → Acts s e u p made → made.enabled ≡ true
         → Onwards s t p w
-        (record {
-          found = true;
-          waypoint = record { code = made.entry.sharers; memory = made.entry.memory; end = p.end };
-        })
-        w'
+        (Some (record { code = made.entry.sharers; memory = made.entry.memory; end = p.end })) w'
     went_ahead copied here acts can =
         let x = s.location.0 in
         went_on refl acts.fits
@@ -330,11 +331,18 @@ module _ {s : Site} {t : ℕ} {p : Waypoint} {w w' : List ℕ} (go : Continuable
         (runs_to_cons sys x (acts_can d e here acts can) (rw (acts_next d e here acts) (runs_to_none sys x))))
 
   -- The walk goes back for the event.
-  pub went_otherwise : {r : Onward} {w'' : List ℕ} → Onwards s t p w' r w'' → Onwards s t p w r w''
-  went_otherwise on =
+  pub went_otherwise : {r : Option Waypoint} {w'' : List ℕ} → Onwards s t p w' r w'' → Onwards s t p w r w''
+  went_otherwise {r = Some q} on =
       record {
         kept = λ base b. kept_then (begun.kept base b) (on.kept base (begun.based base b));
         copies = on.copies;
-        goes = λ e base b. on.goes e base (begun.based base b);
-        ends = λ e sys d fits. on.ends e sys d (rw (events_same begun.frame (suc t) go.few) fits);
+        goes = λ base b. on.goes base (begun.based base b);
+        ends = tt;
+      }
+  went_otherwise {r = None} on =
+      record {
+        kept = λ base b. kept_then (begun.kept base b) (on.kept base (begun.based base b));
+        copies = on.copies;
+        goes = tt;
+        ends = λ sys d fits. on.ends sys d (rw (events_same begun.frame (suc t) go.few) fits);
       }

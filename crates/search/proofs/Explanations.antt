@@ -3,7 +3,7 @@
 use Prim.Native.Nat.{ℕ, suc, ◌+◌, ◌-◌, ◌≤◌, ◌<◌}
 use native.Mathlib.Omega.{arith}
 use mathlib.Core.Path.{◌≡◌, sym, subst}
-use mathlib.Core.Bool.{true, false}
+use Rattle.std.specs.Prelude.{Option, None, Some}
 use mathlib.Core.List.{List, map}
 use Rattle.model.specs.Cxl0.{Topology, Event}
 use Rattle.model.specs.Schedule.{Step, weave}
@@ -18,9 +18,9 @@ use Rattle.scratch.specs.Layout.{ROWS, STEPS, MOST, MOST-STEPS, OnlyIn}
 use Rattle.scratch.specs.Words.{events_from, events_in, copy_in, CopyPut}
 use Rattle.walking.specs.StepsBack.{Copies, Fits}
 use Rattle.scratch.proofs.Frames.{only_wider}
-use Rattle.search.specs.declared.explaining.Onward.{Onward}
 use Rattle.search.specs.Paths.{Leading, Path, start, Based, Kept, Continuable, Onwards}
 use Rattle.search.specs.Paths.{Explainable, Explained}
+use Rattle.search.specs.declared.explaining.Found.TheVariants.{All, First}
 use Rattle.search.proofs.Keeping.{kept_none, kept_then, kept_rows, struct_kept, events_kept}
 use Rattle.search.proofs.Schedules.{own-steps, schedules}
 use Rattle.search.proofs.Paths.{path_led}
@@ -78,17 +78,18 @@ module _ {s : Site} {count t : ℕ} {w w' : List ℕ} {p : Waypoint} (e : Explai
   based short = record { low = omega arith; high = omega arith; path = e.path }
 
   -- Whether or not the walk goes on, the same words are kept.
-  kept_on : {r : Onward} {w'' : List ℕ} → count ≤ MOST-STEPS → Onwards s t p w' r w'' → Kept (STEPS + count) w w''
+  kept_on : {r : Option Waypoint} {w'' : List ℕ} → count ≤ MOST-STEPS → Onwards s t p w' r w''
+      → Kept (STEPS + count) w w''
   kept_on short on = kept_then e.kept (on.kept (STEPS + count) (based short))
 
   -- The walk goes on over event t.
-  pub explaining_more : {r : Onward} {w'' : List ℕ} → count ≤ MOST-STEPS → Onwards s t p w' r w'' → r.found ≡ true
-      → Explaining s count w (suc t) r.waypoint w''
-  explaining_more short on found =
+  pub explaining_more : {q : Waypoint} {w'' : List ℕ} → count ≤ MOST-STEPS → Onwards s t p w' (Some q) w''
+      → Explaining s count w (suc t) q w''
+  explaining_more short on =
       record {
         kept = kept_on short on;
         copies = on.copies;
-        path = on.goes found (STEPS + count) (based short);
+        path = on.goes (STEPS + count) (based short);
       }
 
 module _ (s : Site) (k count : ℕ) (w : List ℕ) (can : Explainable s k count w) where
@@ -124,24 +125,24 @@ module _ (s : Site) (k count : ℕ) (w : List ℕ) (can : Explainable s k count 
         }
 
     -- The events up to event t have no run.
-    pub explaining_ends : {r : Onward} {w'' : List ℕ} → t < k → Onwards s t p w' r w'' → r.found ≡ false
-        → Explained s k count w (record { events = t; steps = count }) w''
-    explaining_ends h on none =
+    pub explaining_ends : {w'' : List ℕ} → t < k → Onwards s t p w' None w''
+        → Explained s k count w (First t) w''
+    explaining_ends h on =
         record {
           kept = kept_on e can.short on;
-          most = omega arith;
+          most = omega (arith, h);
           runs = fits (omega arith);
           ends = λ l sys d run.
               let x = s.location.0 in
               let same = sym (events_kept e.kept (suc t) (omega (arith, can.few))) in
-              on.ends none sys d
+              on.ends sys d
               (subst (λ (es : List Event). HasRunAt sys x es (start_at sys x)) same run);
-          steps = λ all. absurd (omega arith);
+          steps = h;
         }
 
   -- After the last event.
   pub explaining_all : {p : Waypoint} {w' : List ℕ} → Explaining s count w k p w'
-      → Explained s k count w (record { events = k; steps = p.end - STEPS }) w'
+      → Explained s k count w (All (p.end - STEPS)) w'
   explaining_all {p} {w'} e =
       let led = path_led e.path in
       let same = events_kept e.kept k can.few in
@@ -152,7 +153,7 @@ module _ (s : Site) (k count : ℕ) (w : List ℕ) (can : Explainable s k count 
         most = omega arith;
         runs = fits e (omega arith);
         ends = λ l. absurd (omega arith);
-        steps = λ all. record {
+        steps = record {
           words = led.words;
           counted = omega (arith, led.here);
           list = led.list;

@@ -17,12 +17,11 @@ use Rattle.entries.specs.Entries.{short_of}
 use Rattle.entries.specs.declared.Acted.{Acted}
 use Rattle.entries.specs.declared.Site.{Site}
 use Rattle.rows.specs.Sites.{Describes}
-use Rattle.scratch.specs.declared.Waypoint.{Waypoint}
 use Rattle.scratch.specs.Words.{event_in}
 use Rattle.scratch.proofs.Segments.{words_from}
 use Rattle.walking.specs.Acting.{Acts}
 use Rattle.walking.proofs.Acting.{next_here, acts_can}
-use Rattle.blocks.specs.Splitting.{kind_of}
+use Rattle.blocks.specs.Splitting.{waypoint_at, kind_of, ends_block}
 use Rattle.blocks.specs.Blocks.{between, Crossed}
 use Rattle.blocks.specs.declared.splitting.Place.{Place}
 use Rattle.search.proofs.KnownStates.{known_kind, known_bare}
@@ -85,10 +84,6 @@ place_after p q made =
       end = p.end;
     }
 
--- The state before the event at q.
-abbrev pub waypoint_at : Place → Waypoint
-waypoint_at q = record { code = q.code; memory = q.memory; end = q.end }
-
 -- One event more, which is enabled.
 module _ {s : Site} {k : ℕ} {w : List ℕ} {p q : Place} {made : Acted} (free : Free s k w p q) (left : q.gap < k)
     (here : T (event_at s.location.0 (event_in w q.gap)))
@@ -130,8 +125,8 @@ module _ {s : Site} {k : ℕ} {w : List ℕ} {p q : Place} {made : Acted} (free 
         leads = λ sys d. rw (events_more, actions) (leads_more sys d);
       }
 
-  -- If it is of a kind from 3 on, the state after it is known.
-  known_fixed : 3 ≤ kind_of q.copy e → KnownFrom s w p (place_after p q made)
+  -- If it ends a block, the state after it is known.
+  known_fixed : ends_block (kind_of q.copy e) ≡ true → KnownFrom s w p (place_after p q made)
   known_fixed high sys d =
       rw (events_more, ← next sys d)
       (known_kind sys s.location.0 e (free.runs sys d) (free.leads sys d) here (can sys d) high)
@@ -145,7 +140,7 @@ module _ {s : Site} {k : ℕ} {w : List ℕ} {p q : Place} {made : Acted} (free 
       rw (events_more, nothing, same, ← next sys d) (known_bare sys s.location.0 e none)
 
   -- In both cases the events up to it are a block.
-  pub crossed_more : (3 ≤ kind_of q.copy e) ⊎ ((p.gap ≡ q.gap) × (q.code ≡ 0))
+  pub crossed_more : (ends_block (kind_of q.copy e) ≡ true) ⊎ ((p.gap ≡ q.gap) × (q.code ≡ 0))
       → Crossed s p k w (place_after p q made) w
   crossed_more fixed =
       crossed_free free_more (omega (arith, free.on))

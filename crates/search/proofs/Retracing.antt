@@ -21,6 +21,7 @@ use Rattle.scratch.specs.Words.{event_in, events_in, copy_in, waypoint_in, RowPu
 use Rattle.walking.specs.StepsBack.{OnlyRows}
 use Rattle.scratch.proofs.Frames.{get_or_above}
 use Rattle.scratch.proofs.Events.{known_machines, events_same, events_drop}
+use Rattle.std.specs.Prelude.{None, Some}
 use Rattle.search.specs.Paths.{Retraceable, Retraced, RunsFrom}
 use Rattle.search.proofs.Backward.{Written, From, written_none, written_more, copy_next}
 
@@ -42,6 +43,12 @@ HasWaypoint w d row = Fine row (waypoint_in w d).code (waypoint_in w d).memory
 pub record Retracing (s : Site) (m t : ℕ) (w w' : List ℕ) (row : Row) : Type 0 where
   pub written : Written s m t w w' row
   pub without : t < m → ¬ HasWaypoint w t row
+
+-- In a turn that begins at row t, the row is put in front of event t - 1.
+pub put_there : {t : ℕ} {w w' : List ℕ} {row : Row} → 0 < t → RowPut w (t - 1 + 1) row w' → RowPut w t row w'
+put_there {t} h put =
+    let there : t - 1 + 1 ≡ t = omega arith in
+    rw there at put
 
 -- It begins behind the last event.
 pub retracing_none : (s : Site) (m : ℕ) (w : List ℕ) → Retracing s m m w w last_row
@@ -83,13 +90,16 @@ module _ {s : Site} {m : ℕ} {w : List ℕ} (able : Retraceable s m w) where
 
   -- A row that has the waypoint ends the pass.
   pub retraced_here : {d : ℕ} {w' : List ℕ} {row : Row} → Written s m d w w' row → d < m → HasWaypoint w' d row
-      → Retraced s m w d w'
+      → Retraced s m w (Some d) w'
   retraced_here {d} {w'} {row} written h has =
       record {
         frame = written.frame;
-        rows = λ k l b. from_kept written.frame able.ready.few k (written.rows k l b);
-        runs = λ l sys a. (decides written h sys a).1 (rw (waypoint_same written.frame.frame d) at has);
-        ends = λ l. absurd (omega arith);
+        regained = record {
+          below = h;
+          rows = λ k l b. from_kept written.frame able.ready.few k (written.rows k l b);
+          runs = λ sys a. (decides written h sys a).1 (rw (waypoint_same written.frame.frame d) at has);
+        };
+        none = tt;
       }
 
   -- A row that has not the waypoint lets it go on.
@@ -100,15 +110,14 @@ module _ {s : Site} {m : ℕ} {w : List ℕ} (able : Retraceable s m w) where
 
   -- If even the first row has not the first waypoint, there is no run from it.
   pub retraced_none : {t : ℕ} {w' : List ℕ} {row : Row} → Retracing s m t w w' row → t ≤ 0
-      → Retraced s m w m w'
+      → Retraced s m w None w'
   retraced_none {t} {w'} {row} r h =
       let none : t ≡ 0 = omega arith in
       let first = subst (λ (k : ℕ). Retracing s m k w w' row) none r in
       record {
         frame = first.written.frame;
-        rows = λ k l b. absurd (omega arith);
-        runs = λ l. absurd (omega arith);
-        ends = λ l sys a run. first.without able.some
+        regained = tt;
+        none = λ sys a run. first.without able.some
             ((decides first.written able.some sys a).0 run);
       }
 
@@ -148,13 +157,12 @@ module _ {s : Site} {m : ℕ} {w : List ℕ} (able : Retraceable s m w) (sys : T
 module _ {s : Site} {m : ℕ} {w : List ℕ} (able : Retraceable s m w) where
   -- A row without a state ends the pass: there is no run from the first waypoint.
   pub retraced_empty : {d : ℕ} {w' : List ℕ} {row : Row} → Written s m d w w' row
-      → Empty row → Retraced s m w m w'
+      → Empty row → Retraced s m w None w'
   retraced_empty {d} written empty =
       record {
         frame = written.frame;
-        rows = λ k l b. absurd (omega arith);
-        runs = λ l. absurd (omega arith);
-        ends = λ l sys a run.
+        regained = tt;
+        none = λ sys a run.
             let f = run_leads able sys a run d written.bound in
             empty f.0 f.1 ((written.here.right sys a f.0 f.1 f.2).0 f.3);
       }

@@ -5,7 +5,8 @@ use native.Mathlib.Nat.{eq-or-lt_of_le, le_refl}
 use native.Mathlib.Omega.{arith}
 use mathlib.Core.Path.{◌≡◌, ap, ◌∙◌}
 use mathlib.Core.Logic.{◌⊎◌, ⊎_elim}
-use mathlib.Core.Bool.{true, false}
+use mathlib.Core.Bool.{true}
+use Rattle.std.specs.Prelude.{Option, None, Some}
 use mathlib.Core.List.{List, [], ◌∷◌, ◌++◌, map}
 use lib.Dec.{T}
 use lib.ListN.{length, length-map}
@@ -28,16 +29,16 @@ use Rattle.scratch.proofs.Events.{events_length}
 use Rattle.walking.specs.Acting.{Acts}
 use Rattle.walking.specs.StepsBack.{Fits}
 use Rattle.walking.specs.Walks.{Placed}
-use Rattle.blocks.specs.Splitting.{kind_of}
+use Rattle.blocks.specs.Splitting.{waypoint_at, kind_of, ends_block}
 use Rattle.blocks.specs.Blocks.{between, Blockable, Blocked}
 use Rattle.blocks.specs.declared.splitting.Place.{Place}
-use Rattle.blocks.specs.declared.blocks.Onto.{Onto}
 use Rattle.search.specs.declared.explaining.Found.{Found}
+use Rattle.search.specs.declared.explaining.Found.TheVariants.{All, First}
 use Rattle.search.specs.Paths.{Kept, Explainable, Explained}
 use Rattle.search.specs.Shortening.{Shortenable, Shortened}
 use Rattle.search.proofs.Keeping.{kept_none, kept_then, kept_steps, struct_kept, event_kept, events_kept}
 use Rattle.search.proofs.Reaching.{between_two, Reached, start_place, reached_none, none_behind, reached_next}
-use Rattle.search.proofs.FreeStretches.{Free, free_none, crossed_free, place_after, waypoint_at, free_more}
+use Rattle.search.proofs.FreeStretches.{Free, free_none, crossed_free, place_after, free_more}
 use Rattle.search.proofs.FreeStretches.{crossed_more}
 
 -- ---- the walk
@@ -66,7 +67,7 @@ walking_from {s} {k} {w' = w'} {p} kept reached =
 
 -- It has come to a place behind all events.
 shortened_reached : {s : Site} {k count : ℕ} {w w' : List ℕ} {p : Place} → Kept (STEPS + count) w w'
-    → Reached s k count w p w' → p.gap ≡ k → Shortened s k count w (record { events = k; steps = p.end - STEPS }) w'
+    → Reached s k count w p w' → p.gap ≡ k → Shortened s k count w (All (p.end - STEPS)) w'
 shortened_reached {s} {k} {count} {w} {w'} {p} kept reached all =
     record {
       kept = kept;
@@ -75,7 +76,7 @@ shortened_reached {s} {k} {count} {w} {w'} {p} kept reached all =
           let run = shortest_run_of (shortest sys d) in
           (weave_from 0 (events_in w k) (map step_of_word reached.words), run.of, run.own, run.runs);
       ends = λ less. absurd (omega arith);
-      steps = λ same. record {
+      steps = record {
         words = reached.words;
         counted = omega (arith, reached.ends);
         list = reached.list;
@@ -140,7 +141,7 @@ module _ {s : Site} {k count : ℕ} {w : List ℕ} (can : Shortenable s k count 
           }
 
       -- The place after it is known.
-      pub walking_fixed : (3 ≤ kind_of q.copy (event_in w' q.gap)) ⊎ ((p.gap ≡ q.gap) × (q.code ≡ 0))
+      pub walking_fixed : (ends_block (kind_of q.copy (event_in w' q.gap)) ≡ true) ⊎ ((p.gap ≡ q.gap) × (q.code ≡ 0))
           → Walking s k count w (place_after p q made) (place_after p q made) w'
       walking_fixed fixed =
           let crossed = crossed_more walk.free left here acts enabled fixed in
@@ -182,20 +183,12 @@ module _ {s : Site} {k count : ℕ} {w : List ℕ} (can : Shortenable s k count 
           space = omega (arith, walk.reached.ends, asked.short, few_steps);
         }
 
-    module _ {onto : Onto} {w'' : List ℕ} (blocked : Blocked s p k w' onto w'') where
+    module _ {found : Option Place} {w'' : List ℕ} (blocked : Blocked s p k w' found w'') where
       -- No other words have changed.
       kept_on : Kept (STEPS + count) w w''
       kept_on =
           let low : STEPS + count ≤ p.end = omega (arith, walk.reached.ends) in
           kept_then walk.kept (kept_steps (omega arith) (only_wider blocked.frame low (le_refl LOG)))
-
-      -- The walk goes on behind the block.
-      pub walking_crossed : onto.found ≡ true → Walking s k count w onto.place onto.place w''
-      walking_crossed found =
-          walking_from kept_on
-          (reached_next walk.kept asked.few walk.reached (blocked.crossed found) blocked.frame)
-
-      -- ---- the block has no run
 
       -- The search for any schedule can begin.
       pub walking_explainable : Explainable s k count w''
@@ -217,28 +210,35 @@ module _ {s : Site} {k count : ℕ} {w : List ℕ} (can : Shortenable s k count 
           ap (λ (es : List Event). HasRunAt sys x es (start_at sys x))
           (events_kept kept_on n (omega (arith, asked.few)))
 
-      -- It finds none, since no run comes over the block.
-      pub shortened_none : onto.found ≡ false → q.gap < k → {found : Found} {w₂ : List ℕ}
-          → Explained s k count w'' found w₂ → Shortened s k count w found w₂
-      shortened_none none left {found} explained =
-          let most = explained.most in
-          let before : p.gap < k = omega (arith, left, walk.free.on) in
-          record {
-            kept = kept_then kept_on explained.kept;
-            most = most;
-            runs = λ sys d. rw (fits_kept found.events most sys) at (explained.runs sys d);
-            ends = λ less sys d. rw (fits_kept (suc found.events) less sys) at (explained.ends less sys d);
-            steps = λ all.
-                let system = asked.system in
-                let d = asked.placed.describes in
-                let run = rw (fits_kept found.events most system, all) at (explained.runs system d) in
-                absurd (none_behind walk.kept asked.few walk.reached before system d
-                (blocked.none none system d) run);
-          }
+    -- The walk goes on behind the block.
+    pub walking_crossed : {place : Place} {w'' : List ℕ} → Blocked s p k w' (Some place) w''
+        → Walking s k count w place place w''
+    walking_crossed blocked =
+        walking_from (kept_on blocked)
+        (reached_next walk.kept asked.few walk.reached blocked.crossed blocked.frame)
+
+    -- If the block has no run, the search for any schedule finds none, since no run comes over the block.
+    pub shortened_none : {w'' : List ℕ} → Blocked s p k w' None w'' → q.gap < k → {found : Found} {w₂ : List ℕ}
+        → Explained s k count w'' found w₂ → Shortened s k count w found w₂
+    shortened_none blocked left {found = All more} explained =
+        let before : p.gap < k = omega (arith, left, walk.free.on) in
+        let system = asked.system in
+        let d = asked.placed.describes in
+        let run = rw (fits_kept blocked k (le_refl k) system) at (explained.runs system d) in
+        absurd (none_behind walk.kept asked.few walk.reached before system d (blocked.none system d) run)
+    shortened_none blocked left {found = First n} explained =
+        let most = explained.most in
+        record {
+          kept = kept_then (kept_on blocked) explained.kept;
+          most = most;
+          runs = λ sys d. rw (fits_kept blocked n most sys) at (explained.runs sys d);
+          ends = λ less sys d. rw (fits_kept blocked (suc n) less sys) at (explained.ends less sys d);
+          steps = explained.steps;
+        }
 
     -- ---- after all events
 
-    pub shortened_all : k ≤ q.gap → Shortened s k count w (record { events = k; steps = p.end - STEPS }) w'
+    pub shortened_all : k ≤ q.gap → Shortened s k count w (All (p.end - STEPS)) w'
     shortened_all end =
         let all : q.gap ≡ k = omega (arith, end, walk.free.most) in
         ⊎_elim

@@ -1,6 +1,6 @@
 -- The path of the walk at one location: the waypoints before the events so far, each with the steps that lead to it.
 -- What going back and going on ask and leave of it, and what the events explained leave.
-use Rattle.std.specs.Prelude.{ℕ, suc, ◌+◌, ◌*◌, ◌≤◌, ◌<◌, ◌≡◌, true, false, T, length, take, drop}
+use Rattle.std.specs.Prelude.{ℕ, suc, ◌+◌, ◌*◌, ◌≤◌, ◌<◌, ◌≡◌, Option, IfSome, IfNone, T, length, take, drop}
 use mathlib.Core.List.{List, map, Memᴰ}
 use Rattle.std.proofs.Math.Seq.{slice}
 use Rattle.model.specs.Cxl0.{Topology, Event}
@@ -16,8 +16,8 @@ use Rattle.scratch.specs.Words.{events_in, row_in, copy_in, waypoint_in, struct_
 use Rattle.walking.specs.StepsBack.{Copies, Answers, Fits, Ready, OnlyRows}
 use Rattle.walking.specs.Trails.{RunsTo}
 use Rattle.walking.specs.Walks.{Placed, Schedules}
-use Rattle.search.specs.declared.explaining.Onward.{Onward}
 use Rattle.search.specs.declared.explaining.Found.{Found}
+use Rattle.search.specs.declared.explaining.Found.TheVariants.{All, First}
 
 -- ---- the path
 
@@ -72,13 +72,17 @@ pub record Retraceable (s : Site) (m : ℕ) (w : List ℕ) : Type 0 where
   pub ready : Ready s m w
   pub fits : (d : ℕ) → d < m → (waypoint_in w d).code < 64
 
--- The rows after event r are there, and the events from r on have a run from its waypoint; or r is m, and they have
--- none from the first waypoint.
-pub record Retraced (s : Site) (m : ℕ) (w : List ℕ) (r : ℕ) (w' : List ℕ) : Type 0 where
-  pub frame : OnlyRows w w'
+-- The rows after event r are there, and the events from r on have a run from its waypoint.
+pub record Regained (s : Site) (m : ℕ) (w w' : List ℕ) (r : ℕ) : Type 0 where
+  pub below : r < m
   pub rows : (d : ℕ) → r < d → d ≤ m → Answers s (drop d (events_in w' m)) (copy_in w' d) (row_in w' d)
-  pub runs : r < m → (sys : Topology) → Describes sys s → RunsFrom sys s m w r
-  pub ends : m ≤ r → (sys : Topology) → Describes sys s → ¬ RunsFrom sys s m w 0
+  pub runs : (sys : Topology) → Describes sys s → RunsFrom sys s m w r
+
+-- So it is with the event that was found; if none was, the events have no run from the first waypoint.
+pub record Retraced (s : Site) (m : ℕ) (w : List ℕ) (r : Option ℕ) (w' : List ℕ) : Type 0 where
+  pub frame : OnlyRows w w'
+  pub regained : IfSome r (Regained s m w w')
+  pub none : IfNone r ((sys : Topology) → Describes sys s → ¬ RunsFrom sys s m w 0)
 
 -- ---- walking again
 
@@ -120,11 +124,11 @@ pub record Continuable (s : Site) (t : ℕ) (p : Waypoint) (w : List ℕ) : Type
   pub describes : Describes system s
 
 -- The path goes on over event t; or the events up to it have no run.
-pub record Onwards (s : Site) (t : ℕ) (p : Waypoint) (w : List ℕ) (r : Onward) (w' : List ℕ) : Type 0 where
+pub record Onwards (s : Site) (t : ℕ) (p : Waypoint) (w : List ℕ) (r : Option Waypoint) (w' : List ℕ) : Type 0 where
   pub kept : (base : ℕ) → Based s base w t p → Kept base w w'
   pub copies : Copies s.location.0 (suc t) w'
-  pub goes : r.found ≡ true → (base : ℕ) → Based s base w t p → Path s base w' (suc t) r.waypoint
-  pub ends : r.found ≡ false → (sys : Topology) → Describes sys s → ¬ Fits sys s (suc t) w
+  pub goes : IfSome r (λ next. (base : ℕ) → Based s base w t p → Path s base w' (suc t) next)
+  pub ends : IfNone r ((sys : Topology) → Describes sys s → ¬ Fits sys s (suc t) w)
 
 -- ---- all events
 
@@ -144,10 +148,20 @@ pub record Scheduled (s : Site) (k count : ℕ) (w : List ℕ) (more : ℕ) (w' 
   pub list : words_at (STEPS + count) (length words) w' ≡ words
   pub schedules : Schedules s (events_in w k) (map step_of_word words)
 
+-- How many of the k events have a run.
+abbrev pub events_of : ℕ → Found → ℕ
+events_of k (All steps) = k
+events_of k (First n) = n
+
+-- If all have one, P holds of the number of words that the list of steps has then.
+abbrev pub IfAll : ℕ → Found → (ℕ → Type 0) → Type 0
+IfAll k (All steps) P = P steps
+IfAll k (First n) P = n < k
+
 -- The first events have a run, and if these are not all, one more have none; if they are all, there is a schedule.
 pub record Explained (s : Site) (k count : ℕ) (w : List ℕ) (r : Found) (w' : List ℕ) : Type 0 where
   pub kept : Kept (STEPS + count) w w'
-  pub most : r.events ≤ k
-  pub runs : (sys : Topology) → Describes sys s → Fits sys s r.events w
-  pub ends : r.events < k → (sys : Topology) → Describes sys s → ¬ Fits sys s (suc r.events) w
-  pub steps : r.events ≡ k → Scheduled s k count w r.steps w'
+  pub most : events_of k r ≤ k
+  pub runs : (sys : Topology) → Describes sys s → Fits sys s (events_of k r) w
+  pub ends : events_of k r < k → (sys : Topology) → Describes sys s → ¬ Fits sys s (suc (events_of k r)) w
+  pub steps : IfAll k r (λ more. Scheduled s k count w more w')

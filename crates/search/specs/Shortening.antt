@@ -9,7 +9,7 @@ use Rattle.rows.specs.Sites.{Describes}
 use Rattle.scratch.specs.Layout.{STEPS}
 use Rattle.scratch.specs.Words.{event_in, events_in, words_at}
 use Rattle.walking.specs.StepsBack.{Fits}
-use Rattle.search.specs.Paths.{Kept, Explainable}
+use Rattle.search.specs.Paths.{Kept, Explainable, events_of, IfAll}
 use Rattle.search.specs.declared.explaining.Found.{Found}
 
 -- The area has k known events, each of which concerns the site's location, and a list of `count` steps.
@@ -29,7 +29,7 @@ pub record Scheduled (s : Site) (k count : ℕ) (w : List ℕ) (more : ℕ) (w' 
 -- schedule.
 pub record Shortened (s : Site) (k count : ℕ) (w : List ℕ) (r : Found) (w' : List ℕ) : Type 0 where
   pub kept : Kept (STEPS + count) w w'
-  pub most : r.events ≤ k
-  pub runs : (sys : Topology) → Describes sys s → Fits sys s r.events w
-  pub ends : r.events < k → (sys : Topology) → Describes sys s → ¬ Fits sys s (suc r.events) w
-  pub steps : r.events ≡ k → Scheduled s k count w r.steps w'
+  pub most : events_of k r ≤ k
+  pub runs : (sys : Topology) → Describes sys s → Fits sys s (events_of k r) w
+  pub ends : events_of k r < k → (sys : Topology) → Describes sys s → ¬ Fits sys s (suc (events_of k r)) w
+  pub steps : IfAll k r (λ more. Scheduled s k count w more w')

@@ -33,24 +33,22 @@ fn has_waypoint(w: &[u64], t: usize, row: Row) -> bool
 }
 
 // The last of the m events from which the rest of them can be finished, when the walk goes on from the waypoint before
-// it; or m if there is none.
-pub(crate) fn retrace(w: &mut [u64], site: Site, m: usize) -> usize
+// it, if there is one.
+pub(crate) fn retrace(w: &mut [u64], site: Site, m: usize) -> Option<usize>
     requires { Retraceable site m w.old }
     ensures { Retraced site m w.old result w.new }
 {
-    let mut t = m;
     let mut row = last_row();
-    while 0 < t {
-        put_row(w, t, row);
-        t -= 1;
+    for t in (0..m).rev() {
+        put_row(w, t + 1, row);
         row = step_back(&*w, site, t, row);
         if has_waypoint(&*w, t, row) {
-            return t;
+            return Some(t);
         }
         // No run leads to an empty row, wherever it begins.
         if is_empty(row) {
-            return m;
+            return None;
         }
     }
-    m
+    None
 }

@@ -6,7 +6,7 @@ ghost use Rattle.search.specs.Shortening.{Shortenable, Shortened};
 
 use crate::explaining::{Found, explain};
 use blocks::blocks::block;
-use blocks::splitting::{Place, kind};
+use blocks::splitting::{Kind, Place};
 use entries::Site;
 use scratch::{STEPS, Waypoint, get_event};
 use walking::act_at;
@@ -27,14 +27,10 @@ pub fn shorten(w: &mut [u64], site: Site, events: usize, count: usize) -> Found
     let mut at = known;
     while at.gap < events {
         let e = get_event(&*w, at.gap);
-        let here = Waypoint {
-            code: at.code,
-            memory: at.memory,
-            end: at.end,
-        };
-        let made = act_at(site, e, at.copy, here);
+        let made = act_at(site, e, at.copy, Waypoint::from(at));
         if made.enabled {
-            let fixed = (3 <= kind(e, at.copy)) | ((known.gap == at.gap) & (at.code == 0));
+            let bare = (known.gap == at.gap) & (at.code == 0);
+            let fixed = Kind::of(e, at.copy).ends_block() | bare;
             let next = Place {
                 gap: at.gap + 1,
                 code: made.entry.sharers,
@@ -47,16 +43,12 @@ pub fn shorten(w: &mut [u64], site: Site, events: usize, count: usize) -> Found
                 known = next;
             }
         } else {
-            let onto = block(w, site, known, events);
-            if !onto.found {
+            let Some(next) = block(w, site, known, events) else {
                 return explain(w, site, events, count);
-            }
-            known = onto.place;
-            at = known;
+            };
+            known = next;
+            at = next;
         }
     }
-    Found {
-        events,
-        steps: known.end - STEPS,
-    }
+    Found::All(known.end - STEPS)
 }

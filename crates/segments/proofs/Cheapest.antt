@@ -1,6 +1,6 @@
 -- What is to pay from the start of a segment without a reset: what is seen without a move says the lowest number, and a
 -- write-back, after one move where it must be, is never more than two above what is left behind it.
-use Prim.Native.Nat.{ℕ, suc, ◌+◌, ◌≤◌, ◌<◌}
+use Prim.Native.Nat.{ℕ, suc, ◌+◌, ◌≤◌, ◌<◌, min}
 use native.Mathlib.Nat.{le_refl, le_trans}
 use native.Mathlib.Decide.{dec_le}
 use native.Mathlib.Omega.{arith}
@@ -28,10 +28,10 @@ use Rattle.levels.proofs.Stretching.{ending, dry, linear}
 use Rattle.segments.specs.declared.words.Segment.{Segment}
 use Rattle.segments.specs.declared.seeing.Seen.{Seen}
 use Rattle.segments.specs.declared.weighing.Others.{Others}
-use Rattle.segments.specs.Costs.{lesser, plus}
+use Rattle.segments.specs.Costs.{plus}
 use Rattle.segments.specs.Weighing.{Unmoved, out, on, back, Even, Seeing, written_of, Sameable}
 use Rattle.segments.specs.Weighing.{keeping_of, Keeps, spared_of, only_below, Otherable, OthersOf}
-use Rattle.segments.proofs.Rests.{lesser_min, plus_min, plus_far}
+use Rattle.segments.proofs.Rests.{plus_far}
 use Rattle.segments.proofs.TwoWays.{two_ways}
 use Rattle.segments.proofs.Unmoved.{EvenOn, end_is, owner_is, back_is, none_written}
 
@@ -124,19 +124,19 @@ counted_here q from c r far here none =
 
 -- A number that was sought below another one, and is at most that.
 counted_below : (q : Stretch) (from c bound r : ℕ) → bound ≤ FAR → (bound < FAR → Finishes q from c bound)
-    → Counted q from c bound r → Counted q from c FAR (lesser bound r)
+    → Counted q from c bound r → Counted q from c FAR (min bound r)
 counted_below q from c bound r far here counted =
-    counted_here q from c (lesser bound r) (omega (arith, lesser_min bound r)) there none
+    counted_here q from c (min bound r) (omega arith) there none
   where
-    there : lesser bound r < FAR → Finishes q from c (lesser bound r)
+    there : min bound r < FAR → Finishes q from c (min bound r)
     there h =
         elim (dec_le bound r) [
-          | yes b ↦ rw (le-leb bound r b) (here (omega (arith, lesser_min bound r)))
-          | no b ↦ rw (lt-leb bound r (omega arith)) ((counted.exact r (omega arith)).1 (le_refl r))
+          | yes b ↦ subst (Finishes q from c) (omega arith) (here (omega arith))
+          | no b ↦ subst (Finishes q from c) (omega arith) ((counted.exact r (omega arith)).1 (le_refl r))
         ]
 
-    none : (l : ℕ) → l < lesser bound r → ¬ Finishes q from c l
-    none l h f = absurd (omega (arith, lesser_min bound r, (counted.exact l (omega (arith, lesser_min bound r))).0 f))
+    none : (l : ℕ) → l < min bound r → ¬ Finishes q from c l
+    none l h f = absurd (omega (arith, (counted.exact l (omega arith)).0 f))
 
 -- ---- a segment without a reset
 
@@ -220,10 +220,10 @@ module _ {site : Site} {s : Segment} {read : Bool} {n : ℕ} {seen : Seen} {w : 
         λ f. elim (dec_le (plus n 1) l) [
           | yes b ↦ b
           | no b ↦
-              absurd (none_below on order sight (plus n 1) (plus_far n 1) (omega (arith, plus_min n 1)) l
+              absurd (none_below on order sight (plus n 1) (plus_far n 1) (omega arith) l
               (omega arith) f)
         ],
-        λ b. unmoved_finishes (ending q FAR) (seen_on.1 (inr (owned, omega (arith, plus_min n 1)))),
+        λ b. unmoved_finishes (ending q FAR) (seen_on.1 (inr (owned, omega arith))),
       )
 
   -- It has none, but there is one.
@@ -235,10 +235,10 @@ module _ {site : Site} {s : Segment} {read : Bool} {n : ℕ} {seen : Seen} {w : 
         λ f. elim (dec_le (plus n 2) l) [
           | yes b ↦ b
           | no b ↦
-              absurd (none_within (unended_on of) order sight l (omega arith) (omega (arith, plus_min n 2))
+              absurd (none_within (unended_on of) order sight l (omega arith) (omega arith)
               (λ all h. absurd (omega arith)) (λ owned. absurd (true≢false (sym owned ∙ unowned))) f)
         ],
-        λ b. finishes_more (ending q FAR) two (omega (arith, plus_min n 2)),
+        λ b. finishes_more (ending q FAR) two (omega arith),
       )
 
   -- One number says it.
@@ -328,7 +328,7 @@ module _ {site : Site} {s : Segment} {task : Task} {n : ℕ} {seen : Seen} {w : 
 
   -- or less was sought.
   pub same_sought : {r : ℕ} {w' : List ℕ} → Fewest task s.first s.code (written_of s n seen) w r w'
-      → Fewest task s.first s.code FAR w (lesser (written_of s n seen) r) w'
+      → Fewest task s.first s.code FAR w (min (written_of s n seen) r) w'
   same_sought {r} sought =
       record {
         frame = sought.frame;
@@ -467,7 +467,7 @@ module _ {site : Site} {s : Segment} {task : Task} {n least : ℕ} {seen : Seen}
 
     -- The lesser of both ways.
     abbrev others_least : ℕ
-    others_least = lesser (written_of s n seen) (plus kept task.last)
+    others_least = min (written_of s n seen) (plus kept task.last)
 
     -- Either the value is kept, or the copies are written back.
     others_counted : (q : Stretch) → Tasked task s.first w q
@@ -486,16 +486,16 @@ module _ {site : Site} {s : Segment} {task : Task} {n least : ℕ} {seen : Seen}
         (by_writing on order ok.sight named ok.code) counts.exact counts.far
         q.last (rw last ok.small.1) (rw last (ok.spares whole)) in
         record {
-          most = le_trans (omega (arith, lesser_min paid (plus kept task.last))) (written_far s n seen);
+          most = le_trans (omega arith) (written_far s n seen);
           exact = λ l far. rw (← last) (exact l far);
-          far = λ b. omega (arith, lesser_min paid (plus kept task.last), written_far s n seen);
+          far = λ b. omega (arith, written_far s n seen);
         }
 
     -- What it costs to keep it, below what that can spare.
     others_keep : Keeps site s (spared_of others_least least) w (only_below kept (spared_of others_least least)) w'
     others_keep =
         let paid = written_of s n seen in
-        let less : others_least ≤ paid = omega (arith, lesser_min paid (plus kept task.last)) in
+        let less : others_least ≤ paid = omega arith in
         record {
           frame = keeps.frame;
           resets = λ h. absurd (omega arith);

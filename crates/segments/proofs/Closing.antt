@@ -1,14 +1,14 @@
 -- How a segment closes: behind its last gap there is to pay what the next segment costs, for the codes and the memory
 -- values that its closing event accepts.
-use Prim.Native.Nat.{ℕ, zero, suc, ◌-◌, ◌≤◌, ◌<◌}
+use Prim.Native.Nat.{ℕ, suc, ◌-◌, ◌≤◌, ◌<◌}
 use native.Mathlib.Nat.{le_refl, le_of_eq}
 use native.Mathlib.Omega.{arith}
 use mathlib.Core.Path.{◌≡◌, refl, sym, ◌∙◌, subst}
 use mathlib.Core.Logic.Iff
 use mathlib.Core.Logic.{◌↔◌}
-use mathlib.Core.Bool.{Bool, true, false, cond, not, ◌&&◌, and-true, and-false}
+use mathlib.Core.Bool.{Bool, true, false, cond, ◌&&◌, and-true}
 use mathlib.Core.List.{List}
-use borrow.Author.Tests.{eq-eqb, ne_eqb}
+use borrow.Author.Tests.{eq-eqb}
 use lib.Dec.{T, eqb}
 use Rattle.model.specs.Cxl0.{Value}
 use Rattle.model.specs.OneLocation.{Site}
@@ -18,10 +18,13 @@ use Rattle.rows.specs.Rows.{state}
 use Rattle.scratch.specs.Words.{events_from}
 use Rattle.levels.specs.Stretches.{FAR}
 use Rattle.levels.specs.Tasks.{accepting}
+use Rattle.levels.specs.declared.Closing.{Closing}
+use Rattle.levels.specs.declared.Closing.TheVariants.{Open, Same, Other}
 use Rattle.segments.specs.declared.words.Segment.{Segment}
 use Rattle.segments.specs.declared.words.Block.{Block}
 use Rattle.segments.specs.Words.{segment_in}
-use Rattle.segments.specs.Costs.{ending, rest_from}
+use Rattle.std.proofs.Common.{None}
+use Rattle.segments.specs.Costs.{met, ending, rest_from}
 use Rattle.segments.specs.Segments.{Costs, Accepts, Follows, Closes, store, final, ended, Means, again_of}
 use Rattle.segments.proofs.Rests.{rest_end, rest_far}
 use Rattle.segments.proofs.Paying.{Onward, onward_pays, pays_onward, events_first}
@@ -39,28 +42,24 @@ Lasts k w b s m last =
 -- ---- behind the last gap
 
 -- At the end of a block there is nothing to pay, if memory has the value that is read there.
-ending_reads : (forced same : Bool) (x : ℕ) → x < FAR
-    → (cond (forced && not same) FAR 0 ≤ x) ↔ T (cond forced same true)
-ending_reads true true x far = (λ h. tt, λ t. omega arith)
-ending_reads true false x far = (λ h. absurd (omega arith), λ t. absurd t)
-ending_reads false same x far = (λ h. tt, λ t. omega arith)
+ending_reads : (reads : Bool) (x : ℕ) → x < FAR → (cond reads 0 FAR ≤ x) ↔ T reads
+ending_reads true x far = (λ h. tt, λ t. omega arith)
+ending_reads false x far = (λ h. absurd (omega arith), λ t. absurd t)
 
--- Without a copy a closing event asks at most that memory has the value of the copies.
-same_plain : (same : Bool) (r x : ℕ) → x < FAR → (T same × (r ≤ x)) ↔ (cond (not same) FAR r ≤ x)
-same_plain true r x far = (λ h. h.1, λ h. (tt, h))
-same_plain false r x far = (λ h. absurd h.0, λ h. absurd (omega arith))
+-- What is to pay is FAR if the closing event does not accept the code.
+accepted_pays : (accepted : Bool) (r x : ℕ) → x < FAR → (T accepted × (r ≤ x)) ↔ (cond accepted r FAR ≤ x)
+accepted_pays true r x far = (λ h. h.1, λ h. (tt, h))
+accepted_pays false r x far = (λ h. absurd h.0, λ h. absurd (omega arith))
 
-accepting_plain : (closing : ℕ) (same : Bool) (r x : ℕ) → x < FAR
-    → (T (accepting closing same 0) × (r ≤ x)) ↔ (cond (eqb closing 1 && not same) FAR r ≤ x)
-accepting_plain zero same r x far = (λ h. h.1, λ h. (tt, h))
-accepting_plain (suc zero) same r x far = same_plain same r x far
-accepting_plain (suc (suc n)) same r x far =
-    rw (ne_eqb (suc (suc n)) 0 (λ e. absurd (omega arith)), ne_eqb (suc (suc n)) 1 (λ e. absurd (omega arith)))
-    (λ h. h.1, λ h. (tt, h))
+accepted_far : (accepted : Bool) (r : ℕ) → r ≤ FAR → cond accepted r FAR ≤ FAR
+accepted_far true r h = h
+accepted_far false r h = le_refl FAR
 
-again_far : (t : Bool) (r : ℕ) → r ≤ FAR → cond t FAR r ≤ FAR
-again_far true r h = le_refl FAR
-again_far false r h = h
+-- Every closing event accepts code 0 if memory has the value of the copies.
+accepts_none : (closing : Closing) → accepting closing true 0 ≡ true
+accepts_none Open = refl
+accepts_none Same = refl
+accepts_none Other = refl
 
 module _ (k : Site) (w : List ℕ) (b : Block) (l : ℕ) where
   abbrev s : Segment
@@ -82,10 +81,10 @@ module _ (k : Site) (w : List ℕ) (b : Block) (l : ℕ) where
   after_final last end accepts m c x far =
       let none : b.end - suc s.end ≡ 0 = omega arith in
       let asked = accepting s.closing (eqb m s.copy) c in
-      let reads = cond b.forced (eqb m b.value) true in
+      let reads = met b.forced m in
       let accepted : (T asked × (ending b m ≤ x)) ↔ T (asked && reads) =
       Iff.trans
-      (Iff.and Iff.rfl (ending_reads b.forced (eqb m b.value) x far))
+      (Iff.and Iff.rfl (ending_reads reads x far))
       (Iff.symm (and_iff asked reads))
       in
       rw (
@@ -97,7 +96,7 @@ module _ (k : Site) (w : List ℕ) (b : Block) (l : ℕ) where
       (λ r. (accepted.0 r, done), λ r. accepted.1 r.0)
 
   -- and so behind the last event of the log.
-  after_ended : suc l ≡ b.count → s.end ≡ b.end → s.closing ≡ 0 → b.forced ≡ false
+  after_ended : suc l ≡ b.count → s.end ≡ b.end → s.closing ≡ Open → b.forced ≡ None
       → (m : Value) → Lasts k w b s m (rest_from w b (suc l) m)
   unfolding Onward events_from
   after_ended last end asks free m c x far =
@@ -120,12 +119,12 @@ module _ (k : Site) (w : List ℕ) (b : Block) (l : ℕ) where
       let rest = rest_from w b (suc l) m in
       let ahead = events_from w s.end (b.end - s.end) in
       record {
-        most = again_far (eqb s.closing 1 && not (eqb m s.copy)) rest (rest_far w b (suc l) m);
+        most = accepted_far (accepting s.closing (eqb m s.copy) 0) rest (rest_far w b (suc l) m);
         exact =
             λ x far.
             Iff.trans (pays_onward refl, onward_pays ahead)
             (Iff.trans (Iff.symm (behind_right means closes m 0 x far))
-            (accepting_plain s.closing (eqb m s.copy) rest x far));
+            (accepted_pays (accepting s.closing (eqb m s.copy) 0) rest x far));
       }
 
   -- With the value of the copies in memory every closing event accepts it.
@@ -134,6 +133,6 @@ module _ (k : Site) (w : List ℕ) (b : Block) (l : ℕ) where
   left_back means closes =
       let kept = rest_from w b (suc l) s.copy in
       let accepted : again_of s s.copy kept ≡ kept =
-      rw (eq-eqb s.copy s.copy refl, and-false (eqb s.closing 1))
+      rw (eq-eqb s.copy s.copy refl, accepts_none s.closing)
       in
       subst (Costs k w b.end s.end s.copy 0 s.copy) accepted (left_behind means closes s.copy)

@@ -1,6 +1,6 @@
 -- The costs of one segment more: with those of segment l in the area, what holds of the segments after it holds from l
 -- on.
-use Prim.Native.Nat.{ℕ, suc, ◌≤◌, ◌<◌}
+use Prim.Native.Nat.{ℕ, suc, ◌≤◌, ◌<◌, min}
 use native.Mathlib.Nat.{le_refl, eq-or-lt_of_le}
 use mathlib.Core.Path.{◌≡◌}
 use mathlib.Core.Logic.{◌≢◌, ⊎_elim}
@@ -13,7 +13,7 @@ use Rattle.scratch.specs.Layout.{MOST}
 use Rattle.segments.specs.declared.words.Block.{Block}
 use Rattle.segments.specs.declared.words.Costs as costs
 use Rattle.segments.specs.Words.{segment_in, costs_in}
-use Rattle.segments.specs.Costs.{lesser, plus, rest_from, other_from, Orderly}
+use Rattle.segments.specs.Costs.{plus, rest_from, other_from, Orderly}
 use Rattle.segments.specs.Segments.{Costs, Means}
 use Rattle.segments.proofs.Rests.{SameFrom, rests_same, others_same, orderly_same}
 use Rattle.segments.proofs.Rests.{rest_same, rest_differs}
@@ -50,14 +50,14 @@ module _ (b : Block) {l : ℕ} {c : costs.Costs} {w w' : List ℕ} (kept : Kept 
   rest_copy m e = rw stored at (rest_same w' b l here m (rw (kept.segments l) e))
 
   rest_another : (m : Value) → m ≢ (segment_in w l).copy
-      → rest_from w' b l m ≡ lesser c.other (plus c.keep (rest_from w b (suc l) m))
+      → rest_from w' b l m ≡ min c.other (plus c.keep (rest_from w b (suc l) m))
   rest_another m ne =
       rw (stored, rests_same same b (suc l) (le_refl _) m)
       at (rest_differs w' b l here m (λ e. ne (rw (kept.segments l) at e)))
 
   -- What is so of both is so of what is to pay.
   pub by_value : (P : Value → ℕ → Type 0) → P (segment_in w l).copy c.same
-      → ((m : Value) → m ≢ (segment_in w l).copy → P m (lesser c.other (plus c.keep (rest_from w b (suc l) m))))
+      → ((m : Value) → m ≢ (segment_in w l).copy → P m (min c.other (plus c.keep (rest_from w b (suc l) m))))
       → (m : Value) → P m (rest_from w' b l m)
   by_value P copy another m =
       by_test (eqb m (segment_in w l).copy)

@@ -6,7 +6,7 @@ use native.Mathlib.Numerals.{add-one}
 use native.Mathlib.Omega.{arith}
 use mathlib.Core.Path.{◌≡◌, refl, ◌∙◌}
 use mathlib.Core.Logic.{◌⊎◌, inl, inr, ⊎_elim}
-use mathlib.Core.Bool.{Bool, true, false, cond, not, ◌&&◌}
+use mathlib.Core.Bool.{Bool, true, false, cond}
 use mathlib.Core.List.{List}
 use lib.Dec.{leb, eqb, leb→le, nleb→lt, eqb→eq}
 use borrow.Author.Tests.{le-leb, lt-leb, eq-eqb, ne_eqb}
@@ -16,40 +16,22 @@ use Rattle.scratch.specs.Layout.{SEGMENTS, OnlyIn}
 use Rattle.scratch.proofs.Frames.{get_or_below, get_or_above}
 use Rattle.levels.specs.Stretches.{FAR}
 use Rattle.segments.specs.Words.{segment_in, costs_in, CostsFit}
-use Rattle.segments.specs.Costs.{lesser, plus, ending, rest_of, rest_from, other_from, Orderly}
+use Rattle.std.proofs.Common.{Option, Some, None, is_some}
+use Rattle.segments.specs.Costs.{plus, met, ending, rest_of, rest_from, other_from, Orderly}
 use Rattle.segments.specs.declared.words.Block.{Block}
 
 -- ---- the lesser number, and sums up to FAR
 
-pub lesser_min : (a b : ℕ) → lesser a b ≡ min a b
-lesser_min a b =
-    by_test (leb a b)
-    (λ t. let h = leb→le a b t in rw (le-leb a b h) (omega arith))
-    (λ t. let h = nleb→lt a b t in rw (lt-leb a b h) (omega arith))
-
-pub plus_min : (a b : ℕ) → plus a b ≡ min (a + b) FAR
-plus_min a b = lesser_min (a + b) FAR
-
 pub plus_far : (a b : ℕ) → plus a b ≤ FAR
-plus_far a b = omega (arith, plus_min a b)
+plus_far a b = omega arith
 
 pub plus_assoc : (a b c : ℕ) → plus (plus a b) c ≡ plus a (plus b c)
-plus_assoc a b c =
-    omega (arith, plus_min a b, plus_min (plus a b) c, plus_min b c, plus_min a (plus b c))
+plus_assoc a b c = omega arith
 
 -- A sum that is no less than a number may be left out where the lesser is taken with that number.
-least_sum : (n a b c : ℕ) → n ≤ plus a b → lesser n (plus a (lesser b c)) ≡ lesser n (plus a c)
+least_sum : (n a b c : ℕ) → n ≤ plus a b → min n (plus a (min b c)) ≡ min n (plus a c)
 least_sum n a b c h =
-    let less = lesser b c in
-    omega (
-      arith,
-      plus_min a b,
-      lesser_min b c,
-      plus_min a less,
-      plus_min a c,
-      lesser_min n (plus a less),
-      lesser_min n (plus a c),
-    )
+    omega arith
 
 -- ---- numbers are at most FAR
 
@@ -63,19 +45,26 @@ test_far true = omega arith
 test_far false = omega arith
 
 pub ending_far : (b : Block) (m : Value) → ending b m ≤ FAR
-ending_far b m = test_far (b.forced && not (eqb m b.value))
+ending_far b m = go (met b.forced m)
+  where
+    go : (reads : Bool) → cond reads 0 FAR ≤ FAR
+    go true = omega arith
+    go false = omega arith
 
 pub other_far : (w : List ℕ) (b : Block) (l : ℕ) → other_from w b l ≤ FAR
 other_far w b l =
     by_test (leb (suc l) b.count)
     (λ t. rw (le-leb (suc l) b.count (leb→le _ _ t)) (costs_fit w l).other)
-    (λ t. rw (lt-leb (suc l) b.count (nleb→lt _ _ t)) (test_far b.forced))
+    (λ t. rw (lt-leb (suc l) b.count (nleb→lt _ _ t)) (test_far (is_some b.forced)))
 
 -- The end asks no more of a value than of one that is not read.
-ending_least : (forced reads : Bool) → cond (forced && not reads) FAR 0 ≤ cond forced FAR 0
-ending_least true true = omega arith
-ending_least true false = le_refl FAR
-ending_least false reads = le_refl 0
+ending_least : (forced : Option Value) (m : Value) → cond (met forced m) 0 FAR ≤ cond (is_some forced) FAR 0
+ending_least None m = le_refl 0
+ending_least (Some value) m = go (eqb m value)
+  where
+    go : (reads : Bool) → cond reads 0 FAR ≤ FAR
+    go true = omega arith
+    go false = omega arith
 
 -- ---- the segment at hand
 
@@ -84,7 +73,7 @@ module _ (w : List ℕ) (b : Block) where
   pub other_here : (l : ℕ) → l < b.count → other_from w b l ≡ (costs_in w l).other
   other_here l h = rw (le-leb (suc l) b.count h)
 
-  pub other_end : (l : ℕ) → b.count ≤ l → other_from w b l ≡ cond b.forced FAR 0
+  pub other_end : (l : ℕ) → b.count ≤ l → other_from w b l ≡ cond (is_some b.forced) FAR 0
   other_end l h = rw (lt-leb (suc l) b.count (omega arith))
 
   -- From a segment on with memory value m, and after the last one.
@@ -92,7 +81,7 @@ module _ (w : List ℕ) (b : Block) where
       → rest_from w b l m
       ≡ cond (eqb m (segment_in w l).copy)
       (costs_in w l).same
-      (lesser (costs_in w l).other (plus (costs_in w l).keep (rest_from w b (suc l) m)))
+      (min (costs_in w l).other (plus (costs_in w l).keep (rest_from w b (suc l) m)))
   unfolding rest_of
   rest_here l h m =
       let more : b.count - l ≡ suc (b.count - suc l) = omega arith in
@@ -111,7 +100,7 @@ module _ (w : List ℕ) (b : Block) where
   rest_same l h m e = rest_here l h m ∙ rw (eq-eqb m (segment_in w l).copy e)
 
   pub rest_differs : (l : ℕ) → l < b.count → (m : Value) → ¬ (m ≡ (segment_in w l).copy)
-      → rest_from w b l m ≡ lesser (costs_in w l).other (plus (costs_in w l).keep (rest_from w b (suc l) m))
+      → rest_from w b l m ≡ min (costs_in w l).other (plus (costs_in w l).keep (rest_from w b (suc l) m))
   rest_differs l h m e = rest_here l h m ∙ rw (ne_eqb m (segment_in w l).copy e)
 
   -- Either there are no more segments, or memory has the value of the copies of the next one, or it has not.
@@ -136,18 +125,18 @@ module _ (w : List ℕ) (b : Block) where
       (λ h e.
       let other = (costs_in w l).other in
       let kept = plus (costs_in w l).keep (rest_from w b (suc l) m) in
-      rw (rest_differs l h m e) (omega (arith, lesser_min other kept, (costs_fit w l).other)))
+      rw (rest_differs l h m e) (omega (arith, (costs_fit w l).other)))
 
   -- No memory value is worse than one that is not read.
   pub rest_other : (l : ℕ) → Orderly w b l → (m : Value) → rest_from w b l m ≤ other_from w b l
   rest_other l o m =
       rest_cases l m
-      (λ h. rw (rest_end l h m, other_end l h) (ending_least b.forced (eqb m b.value)))
+      (λ h. rw (rest_end l h m, other_end l h) (ending_least b.forced m))
       (λ h e. rw (rest_same l h m e, other_here l h) (o.same l (le_refl l) h))
       (λ h e.
       let other = (costs_in w l).other in
       let kept = plus (costs_in w l).keep (rest_from w b (suc l) m) in
-      rw (rest_differs l h m e, other_here l h) (omega (arith, lesser_min other kept)))
+      rw (rest_differs l h m e, other_here l h) (omega arith))
 
 -- ---- keeping a value, segment by segment
 
@@ -158,29 +147,28 @@ pub record Resting (w : List ℕ) (b : Block) (from : ℕ) (m : Value) (never l 
   pub here : l ≤ b.count
   pub far : kept ≤ FAR
   pub bound : never ≤ plus kept (other_from w b l)
-  pub value : rest_from w b from m ≡ lesser never (plus kept (rest_from w b l m))
+  pub value : rest_from w b from m ≡ min never (plus kept (rest_from w b l m))
 
 -- Nothing is kept yet.
 sum_none : (never rest : ℕ) → rest ≤ never → never ≤ FAR
-    → (never ≤ plus 0 never) × (rest ≡ lesser never (plus 0 rest))
+    → (never ≤ plus 0 never) × (rest ≡ min never (plus 0 rest))
 sum_none never rest h far =
-    (omega (arith, plus_min 0 never), omega (arith, plus_min 0 rest, lesser_min never (plus 0 rest)))
+    (omega arith, omega arith)
 
 -- What a segment that keeps the value adds.
 sum_bound : (never kept keep other next : ℕ) → never ≤ plus kept other → other ≤ plus keep next
     → never ≤ plus (plus kept keep) next
 sum_bound never kept keep other next h o =
-    let more = plus_min kept other in
-    rw (plus_assoc kept keep next) (omega (arith, plus_min kept (plus keep next)))
+    rw (plus_assoc kept keep next) (omega arith)
 
 sum_more : (never kept keep other rest : ℕ) → never ≤ plus kept other
-    → lesser never (plus kept (lesser other (plus keep rest))) ≡ lesser never (plus (plus kept keep) rest)
+    → min never (plus kept (min other (plus keep rest))) ≡ min never (plus (plus kept keep) rest)
 sum_more never kept keep other rest h =
     rw (plus_assoc kept keep rest) (least_sum never kept other (plus keep rest) h)
 
 -- What is kept costs more than it can spare.
-sum_spared : (never kept rest : ℕ) → never ≤ kept → kept ≤ FAR → lesser never (plus kept rest) ≡ never
-sum_spared never kept rest h far = omega (arith, plus_min kept rest, lesser_min never (plus kept rest))
+sum_spared : (never kept rest : ℕ) → never ≤ kept → kept ≤ FAR → min never (plus kept rest) ≡ never
+sum_spared never kept rest h far = omega arith
 
 pub resting_none : (w : List ℕ) (b : Block) (from : ℕ) (m : Value) → Orderly w b from → from ≤ b.count
     → Resting w b from m (other_from w b from) from 0
@@ -192,7 +180,7 @@ module _ {w : List ℕ} {b : Block} {from : ℕ} {m : Value} {never l kept : ℕ
     (r : Resting w b from m never l kept) where
   -- The copies of segment l have the value.
   pub resting_same : l < b.count → m ≡ (segment_in w l).copy
-      → rest_from w b from m ≡ lesser never (plus kept (costs_in w l).same)
+      → rest_from w b from m ≡ min never (plus kept (costs_in w l).same)
   resting_same h e = rw (← rest_same w b l h m e) r.value
 
   -- They have not: one segment more.
@@ -217,7 +205,7 @@ module _ {w : List ℕ} {b : Block} {from : ℕ} {m : Value} {never l kept : ℕ
   resting_spared h = r.value ∙ sum_spared never kept (rest_from w b l m) h r.far
 
   -- There are no more segments.
-  pub resting_end : b.count ≤ l → rest_from w b from m ≡ lesser never (plus kept (ending b m))
+  pub resting_end : b.count ≤ l → rest_from w b from m ≡ min never (plus kept (ending b m))
   resting_end h = rw (← rest_end w b l h m) r.value
 
 -- ---- what else changes

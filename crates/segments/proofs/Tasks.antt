@@ -1,12 +1,11 @@
 -- The tasks of a segment are those of its stretches, and their numbers are right.
-use Prim.Native.Nat.{ℕ, suc, ◌+◌, ◌≤◌, ◌<◌, zero-le}
+use Prim.Native.Nat.{ℕ, suc, ◌≤◌, ◌<◌, zero-le, max}
 use native.Mathlib.Nat.{le_refl, le_trans}
-use native.Mathlib.Decide.{dec_le}
 use native.Mathlib.Omega.{arith}
 use mathlib.Core.Path.{◌≡◌, refl, ap}
-use mathlib.Core.Bool.{Bool, true, false, cond, ◌&&◌}
+use mathlib.Core.Bool.{Bool, true, false, cond}
 use mathlib.Core.List.{List}
-use borrow.Author.Tests.{lt-ltb, le-ltb}
+use borrow.Author.Tests.{lt-ltb}
 use lib.Dec.{leb, ltb, eqb}
 use lib.ListN.{length}
 use Rattle.model.specs.Cxl0.{Value}
@@ -22,7 +21,6 @@ use Rattle.segments.specs.declared.backing.Bounds.{Bounds}
 use Rattle.segments.specs.Words.{segment_in}
 use Rattle.segments.specs.Segments.{IsSegment, stretch_of}
 use Rattle.segments.specs.Weighing.{task_of, keeping_of}
-use Rattle.segments.proofs.Rests.{lesser_min}
 use Rattle.segments.proofs.Weighings.{kept_in}
 
 -- The numbers that are left to pay after write-backs in segment l are within the bounds.
@@ -33,18 +31,11 @@ pub record Within (w : List ℕ) (l : ℕ) (r : Bounds) : Type 0 where
 
 -- `high` is at least what is to pay behind the last gap, where that is a number of steps, and at least the bound of the
 -- write-backs.
-higher : (last most : ℕ) → (last ≤ cond (ltb most last) last most) × (most ≤ cond (ltb most last) last most)
-higher last most =
-    elim (dec_le (suc most) last) [
-      | yes h ↦ rw (lt-ltb most last h) (le_refl last, omega arith)
-      | no h ↦ rw (le-ltb most last (omega arith)) (omega arith, le_refl most)
-    ]
+high_last : (last most : ℕ) → last < FAR → last ≤ cond (ltb last FAR) (max last most) most
+high_last last most far = rw (lt-ltb last FAR far) (omega arith)
 
-high_last : (last most : ℕ) → last < FAR → last ≤ cond (ltb last FAR && ltb most last) last most
-high_last last most far = rw (lt-ltb last FAR far) (higher last most).0
-
-high_back : (near : Bool) (last most : ℕ) → most ≤ cond (near && ltb most last) last most
-high_back true last most = (higher last most).1
+high_back : (near : Bool) (last most : ℕ) → most ≤ cond near (max last most) most
+high_back true last most = omega arith
 high_back false last most = le_refl most
 
 -- Memory has the value of the copies where the task says so.
@@ -97,7 +88,6 @@ module _ (site : Site) (b : Block) (l : ℕ) (w : List ℕ) (seg : IsSegment (si
     pub ready_of : (r : Bounds) → Within w l r → (last : ℕ) (same : Bool) (m : Value) → eqb m s.copy ≡ same
         → Ready (task_of site s same last r) s.first w
     ready_of r within last same m e =
-        let low = lesser_min last (r.least + 1) in
         record {
           room = room;
           order = seg.order;

@@ -1,6 +1,6 @@
 -- Two ways to pay: one that costs the same whatever is to pay at the end, and one that comes to the end; and that the
 -- second need not be sought beyond what the first can spare.
-use Prim.Native.Nat.{ℕ, ◌+◌, ◌≤◌, ◌<◌}
+use Prim.Native.Nat.{ℕ, ◌+◌, ◌≤◌, ◌<◌, min}
 use native.Mathlib.Nat.{le_refl}
 use native.Mathlib.Decide.{dec_le}
 use native.Mathlib.Omega.{arith}
@@ -8,9 +8,8 @@ use mathlib.Core.Path.{◌≡◌}
 use mathlib.Core.Logic.{◌↔◌, ◌⊎◌, inl, inr, ⊎_elim}
 use borrow.Author.Tests.{le-leb, lt-leb}
 use Rattle.levels.specs.Stretches.{FAR}
-use Rattle.segments.specs.Costs.{lesser, plus}
+use Rattle.segments.specs.Costs.{plus}
 use Rattle.segments.specs.Weighing.{spared_of}
-use Rattle.segments.proofs.Rests.{lesser_min, plus_min}
 
 -- A number is below what another can spare, or that is at most the sum of it and what must remain.
 spared_bound : (a other least n : ℕ) → least ≤ n → spared_of other least ≤ a → (FAR ≤ a) ⊎ (other ≤ a + n)
@@ -42,36 +41,36 @@ module _ (Pay : (n x : ℕ) → Type 0) (Back Kept : ℕ → Type 0)
   pub keep_bound : other ≤ plus keep next
   keep_bound =
       elim (dec_le FAR (keep + next)) [
-        | yes h ↦ omega (arith, plus_min keep next)
+        | yes h ↦ omega arith
         | no h ↦
             let way = (ways next (keep + next) (omega arith)).1 (inr (keep, kept (omega arith), le_refl _)) in
-            omega (arith, plus_min keep next, (other_exact (keep + next) (omega arith)).0 way)
+            omega (arith, (other_exact (keep + next) (omega arith)).0 way)
       ]
 
   -- and the least to pay is the lesser of both.
   pub two_ways : (n : ℕ) → n ≤ next → least ≤ n
-      → (x : ℕ) → x < FAR → Pay n x ↔ (lesser other (plus keep n) ≤ x)
+      → (x : ℕ) → x < FAR → Pay n x ↔ (min other (plus keep n) ≤ x)
   two_ways n few more x far = (λ p. ⊎_elim by_back by_keeping ((ways n x far).0 p), pays)
     where
-      by_back : Back x → lesser other (plus keep n) ≤ x
+      by_back : Back x → min other (plus keep n) ≤ x
       by_back h =
           let paid = (other_exact x far).0 ((ways next x far).1 (inl h)) in
-          omega (arith, lesser_min other (plus keep n))
+          omega arith
 
-      by_keeping : (a : ℕ) × Kept a × (a + n ≤ x) → lesser other (plus keep n) ≤ x
+      by_keeping : (a : ℕ) × Kept a × (a + n ≤ x) → min other (plus keep n) ≤ x
       by_keeping (a, p, h) =
           elim (dec_le (spared_of other least) a) [
             | yes s ↦
                 let paid : other ≤ x =
                 ⊎_elim (λ f. absurd (omega arith)) (λ f. omega arith) (spared_bound a other least n more s)
                 in
-                omega (arith, lesser_min other (plus keep n))
+                omega arith
             | no s ↦
                 let paid = (keep_exact a (omega arith)).0 p in
-                omega (arith, lesser_min other (plus keep n), plus_min keep n)
+                omega arith
           ]
 
-      pays : lesser other (plus keep n) ≤ x → Pay n x
+      pays : min other (plus keep n) ≤ x → Pay n x
       pays h =
           elim (dec_le other x) [
             | yes le ↦
@@ -79,6 +78,6 @@ module _ (Pay : (n x : ℕ) → Type 0) (Back Kept : ℕ → Type 0)
                 (⊎_elim inl (λ p. inr (p.0, p.1, omega (arith, p.2)))
                 ((ways next x far).0 ((other_exact x far).1 le)))
             | no le ↦
-                let sum : keep + n ≤ x = omega (arith, lesser_min other (plus keep n), plus_min keep n) in
+                let sum : keep + n ≤ x = omega arith in
                 (ways n x far).1 (inr (keep, kept (omega arith), sum))
           ]

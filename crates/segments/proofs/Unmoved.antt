@@ -25,6 +25,8 @@ use Rattle.walking.specs.Acting.{Acts}
 use Rattle.levels.specs.declared.Task.{Task}
 use Rattle.levels.specs.Stretches.{FAR, Stretch, state_at, Finishes, ends, acts, writes, moves, Inner}
 use Rattle.levels.specs.Tasks.{accepting, Tasked}
+use Rattle.levels.specs.declared.Closing.{Closing}
+use Rattle.levels.specs.declared.Closing.TheVariants.{Open, Same, Other}
 use Rattle.levels.proofs.Stretching.{ending}
 use Rattle.segments.specs.declared.words.Segment.{Segment}
 use Rattle.segments.specs.Weighing.{Unmoved, out, on, back, Seeable, Even, Seeing}
@@ -67,20 +69,20 @@ code_anyhow k j (RMW form i x w z) c u m v n inner = absurd inner
 
 -- What follows the last event accepts a code with the value of the copies in memory, if it does so without it, or if
 -- there is no copy.
-accepts_read : (closing c : ℕ) (read : Bool)
+accepts_read : (closing : Closing) (c : ℕ) (read : Bool)
     → accepting closing read c ≡ cond read (accepting closing false c || eqb c 0) (accepting closing false c)
-accepts_read closing c read = go (eqb closing 0) (eqb closing 1) (eqb c 0) read
+accepts_read closing c false = refl
+accepts_read Open c true = refl
+accepts_read Same c true = go (eqb c 0)
   where
-    go : (open' same none read : Bool)
-        → cond open' true (cond same (not none || read) none)
-        ≡ cond read (cond open' true (cond same (not none || false) none) || none)
-        (cond open' true (cond same (not none || false) none))
-    go open' same none false = refl
-    go true same none true = refl
-    go false true true true = refl
-    go false true false true = refl
-    go false false true true = refl
-    go false false false true = refl
+    go : (none : Bool) → (not none || true) ≡ ((not none || false) || none)
+    go true = refl
+    go false = refl
+accepts_read Other c true = go (eqb c 0)
+  where
+    go : (none : Bool) → none ≡ (none || none)
+    go true = refl
+    go false = refl
 
 -- ---- one gap
 

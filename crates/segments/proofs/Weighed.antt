@@ -1,5 +1,5 @@
 -- One segment more is weighed: what its stretches were found to cost is right, and so is what stood there before.
-use Prim.Native.Nat.{ℕ, zero, suc, ◌+◌, ◌-◌, ◌*◌, ◌≤◌, ◌<◌}
+use Prim.Native.Nat.{ℕ, zero, suc, ◌+◌, ◌-◌, ◌*◌, ◌≤◌, ◌<◌, min}
 use native.Mathlib.Nat.{le_refl, le_trans}
 use native.Mathlib.Decide.{dec_le}
 use native.Mathlib.Omega.{arith}
@@ -28,7 +28,7 @@ use Rattle.segments.specs.declared.backing.Bounds.{Bounds}
 use Rattle.segments.specs.declared.seeing.Seen.{Seen}
 use Rattle.segments.specs.declared.weighing.Others.{Others}
 use Rattle.segments.specs.Words.{segment_in, CostsFit, CostsPut}
-use Rattle.segments.specs.Costs.{lesser, plus, rest_from, other_from, Orderly}
+use Rattle.segments.specs.Costs.{plus, rest_from, other_from, Orderly}
 use Rattle.segments.specs.Segments.{Costs, IsSegment, Means, Backs}
 use Rattle.segments.specs.Segments.{stretch_of, cleared_of, again_of, behind_of}
 use Rattle.segments.specs.Weighing.{Backable, Backed, task_of, keeping_of}
@@ -343,13 +343,13 @@ module _ {site : Site} {b : Block} {l least : ℕ} {w : List ℕ} (ok : Weighabl
           same_all : SameFrom (suc l) v w'
           same_all = same_from changed (suc l) (omega arith)
 
-          pub weighed : Weighed site b l w (lesser (lesser same other) (plus keep least)) w'
+          pub weighed : Weighed site b l w (min (min same other) (plus keep least)) w'
           weighed =
               let some = by_value b kept_all same_all put.stored ok.here in
               let cost : Value → ℕ → Type 0 =
               Costs k v b.end (segment_in v l).first (segment_in v l).copy (segment_in v l).code
               in
-              let least_of = lesser (lesser same other) (plus keep least) in
+              let bound_here = min (min same other) (plus keep least) in
               record {
                 sized = changed.sized ∙ backed.frame.sized;
                 below = only_then (only_wider backed.frame (omega arith) (omega arith)) changed;
@@ -370,5 +370,5 @@ module _ {site : Site} {b : Block} {l least : ℕ} {w : List ℕ} (ok : Weighabl
                       kept_backs.segments l,
                     );
                 least =
-                    some (λ (m n : ℕ). least_of ≤ n) right.least_same (λ m ne. right.least_other m);
+                    some (λ (m n : ℕ). bound_here ≤ n) right.least_same (λ m ne. right.least_other m);
               }

@@ -1,5 +1,5 @@
 -- The costs of a segment are right: with each memory value there is to pay from its start on what they say.
-use Prim.Native.Nat.{ℕ, suc, ◌≤◌, ◌<◌}
+use Prim.Native.Nat.{ℕ, suc, ◌≤◌, ◌<◌, min}
 use native.Mathlib.Nat.{le_refl, le_trans}
 use native.Mathlib.Decide.{dec_le}
 use native.Mathlib.Omega.{arith}
@@ -15,16 +15,18 @@ use Rattle.model.specs.Cxl0.{Value}
 use Rattle.model.specs.OneLocation.{Site}
 use Rattle.levels.specs.Stretches.{FAR, Stretch, Finishes}
 use Rattle.levels.specs.Tasks.{accepting, Counted}
+use Rattle.levels.specs.declared.Closing.{Closing}
+use Rattle.levels.specs.declared.Closing.TheVariants.{Open, Same, Other}
 use Rattle.levels.proofs.Stretching.{Through, ending, dry, linear, Easier, monotone}
 use Rattle.segments.specs.declared.words.Segment.{Segment}
 use Rattle.segments.specs.declared.words.Block.{Block}
 use Rattle.segments.specs.declared.words.Costs as costs
 use Rattle.segments.specs.Words.{segment_in}
-use Rattle.segments.specs.Costs.{lesser, plus, rest_from, other_from, Orderly}
+use Rattle.segments.specs.Costs.{plus, rest_from, other_from, Orderly}
 use Rattle.segments.specs.Segments.{Costs, IsSegment, Means}
 use Rattle.segments.specs.Segments.{stretch_of, cleared_of, behind_of, Backs}
 use Rattle.segments.specs.Weighing.{spared_of}
-use Rattle.segments.proofs.Rests.{lesser_min, plus_min, rest_other}
+use Rattle.segments.proofs.Rests.{rest_other}
 use Rattle.segments.proofs.TwoWays.{keep_bound, two_ways}
 use Rattle.segments.proofs.Links.{stretch_left}
 
@@ -61,13 +63,13 @@ pub record RightCosts (k : Site) (w : List ℕ) (b : Block) (l least : ℕ) (c :
       c.same
   pub other : (m : Value) → m ≢ (segment_in w l).copy
       → Costs k w b.end (segment_in w l).first (segment_in w l).copy (segment_in w l).code m
-      (lesser c.other (plus c.keep (rest_from w b (suc l) m)))
+      (min c.other (plus c.keep (rest_from w b (suc l) m)))
   pub order : c.same ≤ c.other
   pub kept : c.other ≤ plus c.keep (other_from w b (suc l))
-  pub least_same : lesser (lesser c.same c.other) (plus c.keep least) ≤ c.same
+  pub least_same : min (min c.same c.other) (plus c.keep least) ≤ c.same
   pub least_other : (m : Value)
-      → lesser (lesser c.same c.other) (plus c.keep least)
-      ≤ lesser c.other (plus c.keep (rest_from w b (suc l) m))
+      → min (min c.same c.other) (plus c.keep least)
+      ≤ min c.other (plus c.keep (rest_from w b (suc l) m))
 
 -- ---- memory with the value of the copies
 
@@ -77,17 +79,15 @@ reads_too true u z e = refl
 reads_too false u z e = e
 
 -- A closing event accepts no less if memory has the value of the copies.
-accepts_too : (closing c : ℕ) (reads reads' : Bool) → (T reads → T reads')
+accepts_too : (closing : Closing) (c : ℕ) (reads reads' : Bool) → (T reads → T reads')
     → T (accepting closing reads c) → T (accepting closing reads' c)
-accepts_too closing c reads reads' h = go (eqb closing 0) (eqb closing 1) (eqb c 0)
+accepts_too Open c reads reads' h t = tt
+accepts_too Same c reads reads' h t = go (eqb c 0) t
   where
-    go : (asks_nothing asks_same none : Bool)
-        → T (cond asks_nothing true (cond asks_same (not none || reads) none))
-        → T (cond asks_nothing true (cond asks_same (not none || reads') none))
-    go true asks_same none t = tt
-    go false true true t = h t
-    go false true false t = tt
-    go false false none t = t
+    go : (none : Bool) → T (not none || reads) → T (not none || reads')
+    go true t = h t
+    go false t = tt
+accepts_too Other c reads reads' h t = t
 
 -- What is to pay behind the segment is no more.
 behind_less : (resets : Bool) (cleared kept kept' : ℕ) → kept ≤ kept'
@@ -128,7 +128,7 @@ module _ (k : Site) (w : List ℕ) (b : Block) (l least : ℕ) (c : costs.Costs)
   Lesser m =
       (x : ℕ) → x < FAR
       → Finishes (stretch_in k w b l m (rest m)) s.first s.code x
-      ↔ (lesser c.other (plus c.keep (rest m)) ≤ x)
+      ↔ (min c.other (plus c.keep (rest m)) ≤ x)
 
   -- With a reset, nothing is kept.
   module _ (resets : s.reset < s.end) where
@@ -136,17 +136,15 @@ module _ (k : Site) (w : List ℕ) (b : Block) (l least : ℕ) (c : costs.Costs)
     behind_reset kept = rw (lt-ltb s.reset s.end resets)
 
     reset_bound : c.other ≤ plus c.keep next
-    reset_bound = omega (arith, found.never resets, plus_min c.keep next, (found.other _ another).most)
+    reset_bound = omega (arith, found.never resets, (found.other _ another).most)
 
     reset_right : (m : Value) → m ≢ s.copy → Lesser m
     reset_right m ne x far =
         let sum = plus c.keep (rest m) in
-        let all : lesser c.other sum ≡ c.other =
+        let all : min c.other sum ≡ c.other =
         omega (
           arith,
           found.never resets,
-          plus_min c.keep (rest m),
-          lesser_min c.other sum,
           (found.other m ne).most,
         )
         in
@@ -182,14 +180,14 @@ module _ (k : Site) (w : List ℕ) (b : Block) (l least : ℕ) (c : costs.Costs)
 
   -- With another value in memory.
   other_right : (m : Value) → m ≢ s.copy
-      → Costs k w b.end s.first s.copy s.code m (lesser c.other (plus c.keep (rest m)))
+      → Costs k w b.end s.first s.copy s.code m (min c.other (plus c.keep (rest m)))
   other_right m ne =
       let left = stretch_left k w b l seg m means backs s.code in
       let right : Lesser m =
       elim (dec_le s.end s.reset) [ yes h ↦ kept_right h m ne | no h ↦ reset_right (omega arith) m ne ]
       in
       record {
-        most = omega (arith, (found.other m ne).most, lesser_min c.other (plus c.keep (rest m)));
+        most = omega (arith, (found.other m ne).most);
         exact = λ x far. Iff.trans (Iff.symm (left x far)) (right x far);
       }
 
@@ -237,19 +235,14 @@ module _ (k : Site) (w : List ℕ) (b : Block) (l least : ℕ) (c : costs.Costs)
 
   -- What `weigh` hands back is at most what there is to pay with each memory value.
   abbrev bound_here : ℕ
-  bound_here = lesser (lesser c.same c.other) (plus c.keep least)
+  bound_here = min (min c.same c.other) (plus c.keep least)
 
   least_same : bound_here ≤ c.same
-  least_same =
-      let first = lesser c.same c.other in
-      omega (arith, lesser_min c.same c.other, lesser_min first (plus c.keep least))
+  least_same = omega arith
 
-  least_other : (m : Value) → bound_here ≤ lesser c.other (plus c.keep (rest m))
+  least_other : (m : Value) → bound_here ≤ min c.other (plus c.keep (rest m))
   least_other m =
-      let first = lesser c.same c.other in
-      let here = lesser_min first (plus c.keep least) in
-      let there = lesser_min c.other (plus c.keep (rest m)) in
-      omega (arith, lesser_min c.same c.other, plus_min c.keep least, plus_min c.keep (rest m), bound m)
+      omega (arith, bound m)
 
   pub found_right : RightCosts k w b l least c
   found_right =

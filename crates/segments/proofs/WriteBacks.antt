@@ -1,27 +1,31 @@
 -- What is left to pay after write-backs, filled in gap by gap from the last one.
-use Prim.Native.Nat.{ℕ, suc, ◌+◌, ◌-◌, ◌≤◌, ◌<◌}
+use Prim.Native.Nat.{ℕ, zero, suc, ◌+◌, ◌-◌, ◌≤◌, ◌<◌}
 use native.Mathlib.Nat.{le_refl, le_trans, eq-or-lt_of_le}
 use native.Mathlib.Omega.{arith}
 use mathlib.Core.Path.{◌≡◌, refl, sym, subst, ◌∙◌}
-use mathlib.Core.Logic.{⊎_elim}
-use mathlib.Core.Bool.{Bool, true, false, cond, not, ◌&&◌, true≢false}
+use mathlib.Core.Logic.{◌⊎◌, inl, inr, ⊎_elim}
+use mathlib.Core.Bool.{true, false, cond, true≢false}
 use mathlib.Core.List.{List}
-use lib.Dec.{T, eqb, leb, leb→le, nleb→lt, eqb→eq}
-use lib.ListN.{length, set}
+use lib.Dec.{T, leb, leb→le, nleb→lt}
+use lib.ListN.{length, set, get_or, replicate}
+use borrow.Rule.Slice.PartMut.{put_mid}
+use Rattle.std.proofs.Common.{rules}
+use Rattle.std.proofs.lemmas.List.{places, length-replicate}
+use Rattle.std.proofs.lemmas.Slice.{overwrites}
 use lib.Seq.{get_or-set_same, get_or-set_other}
 use Rattle.model.specs.Cxl0.{Value, event}
 use Rattle.model.specs.OneLocation
 use Rattle.model.specs.OneLocation.{clears_site, enabled_at}
 use Rattle.model.specs.Meaning.{meant}
 use Rattle.model.specs.declared.Event as event
-use Rattle.model.proofs.Tests.{by_test, cond_same, T→true, true→T, ne_test, and_i, and_l, and_r}
+use Rattle.model.proofs.Tests.{by_test, cond_same}
 use Rattle.entries.specs.Entries.{site_meant}
 use Rattle.entries.specs.declared.Site.{Site}
 use Rattle.rows.specs.Rows.{state}
 use Rattle.rows.specs.Sites.{Known}
 use Rattle.scratch.specs.Layout.{WORDS, MOST, BACKS, SEGMENTS, OnlyIn}
 use Rattle.scratch.specs.Words.{event_in, struct_in}
-use Rattle.scratch.proofs.Frames.{only_set, only_then}
+use Rattle.scratch.proofs.Frames.{only_set, only_then, only_wider, get_or_above}
 use Rattle.scratch.proofs.Events.{meant_read}
 use Rattle.levels.specs.Stretches.{FAR, Inner}
 use Rattle.levels.specs.Tasks.{back_in}
@@ -58,11 +62,10 @@ pub data Turn (site : Site) (s : Segment) (e : event.Event) (now again : ℕ) (b
     (now' again' : ℕ) → (bounds' : Bounds) → Type 0 where
   resetting : {bounds' : Bounds} → clears_site (meant e) (site_meant site) ≡ true → Bounded bounds again bounds'
       → Turn site s e now again bounds again again bounds'
-  stopping : clears_site (meant e) (site_meant site) ≡ false
-      → (eqb e.operation 4 && not (eqb site.initial s.copy)) ≡ true
+  stopping : clears_site (meant e) (site_meant site) ≡ false → e.operation ≡ 4 → ¬ (site.initial ≡ s.copy)
       → Turn site s e now again bounds now FAR bounds
   passing : clears_site (meant e) (site_meant site) ≡ false
-      → (eqb e.operation 4 && not (eqb site.initial s.copy)) ≡ false
+      → (¬ (e.operation ≡ 4)) ⊎ (site.initial ≡ s.copy)
       → Turn site s e now again bounds now again bounds
 
 -- The segment is s, and the number of its last gap is filled in.
@@ -70,6 +73,19 @@ pub record Fillable (site : Site) (b : Block) (l : ℕ) (s : Segment) (back zeta
   pub ready : Backable site b l back zeta w
   pub segment : s ≡ segment_in w l
   pub last : w' ≡ set w (BACKS + s.end) back
+
+-- Words that are filled with a number have it, and no other word has changed.
+filled_here : (a n v : ℕ) (w : List ℕ) → a + n ≤ length w → (i : ℕ) → a ≤ i → i < a + n
+    → get_or (put_mid a n w (replicate n v)) i 0 ≡ v
+filled_here a n v w h i l m = search (rules, places)
+
+only_filled : (a n v : ℕ) (w : List ℕ) → a + n ≤ length w → OnlyIn a (a + n) w (put_mid a n w (replicate n v))
+only_filled a n v w h =
+    record {
+      sized = search (rules, overwrites, length-replicate {A = ℕ});
+      below = search (rules, overwrites);
+      above = search (rules, overwrites, length-replicate {A = ℕ});
+    }
 
 -- Wider bounds.
 wider : {site : Site} {b : Block} {s : Segment} {w : List ℕ} {bounds bounds' : Bounds} {j n m : ℕ}
@@ -183,47 +199,32 @@ module _ {site : Site} {b : Block} {l : ℕ} {s : Segment} {back zeta : ℕ} {w 
       is-event : meant e ≡ event_in w t
       is-event = meant_read w t e read
 
-      -- It is a load, and the initial value is not that of the copies.
-      abbrev loads : Bool
-      loads = eqb e.operation 4
-
-      abbrev differs : Bool
-      differs = not (eqb site.initial s.copy)
-
-      -- Then it does not let the initial value pass.
-      fill_load : clears_site (event_in w t) k ≡ false → (loads && differs) ≡ true
+      -- A load does not let the initial value pass, unless that is the value of the copies.
+      fill_load : clears_site (event_in w t) k ≡ false → e.operation ≡ 4 → ¬ (site.initial ≡ s.copy)
           → Filling site b s w t now FAR bounds (set w' (BACKS + t) now)
-      fill_load clears both =
-          let load = eqb→eq e.operation 4 (and_l loads differs (true→T both)) in
-          let other = ne_test site.initial s.copy (and_r loads differs (true→T both)) in
+      fill_load clears load other =
           let stuck = stops_load k s.copy e site.initial load other (rw is-event (inner t a h)) in
           fill_kept clears
           (λ d.
           costs_stuck k w b.end s.copy t (omega (arith, inside)) (inner t a h) site.initial
           (rw is-event at stuck))
 
-      -- Else it does.
-      initial_passes : (loads && differs) ≡ false
+      -- Every other event does.
+      initial_passes : (¬ (e.operation ≡ 4)) ⊎ (site.initial ≡ s.copy)
           → T (enabled_at k (event (event_in w t)) (state 0 s.copy site.initial))
-      initial_passes neither =
-          by_test loads
-          (λ load.
-          by_test (eqb site.initial s.copy)
-          (λ same. passes_same k s.copy (event_in w t) site.initial (eqb→eq _ _ same) (inner t a h))
-          (λ other. absurd (true≢false (sym (T→true (and_i loads differs load other)) ∙ neither))))
-          (λ other.
-          rw is-event at
-          (passes_other k s.copy e site.initial (ne_test e.operation 4 other) (rw is-event (inner t a h))))
+      initial_passes (inl other) =
+          rw is-event at (passes_other k s.copy e site.initial other (rw is-event (inner t a h)))
+      initial_passes (inr same) = passes_same k s.copy (event_in w t) site.initial same (inner t a h)
 
-      fill_other : clears_site (event_in w t) k ≡ false → (loads && differs) ≡ false
+      fill_other : clears_site (event_in w t) k ≡ false → (¬ (e.operation ≡ 4)) ⊎ (site.initial ≡ s.copy)
           → Filling site b s w t now again bounds (set w' (BACKS + t) now)
-      fill_other clears neither = fill_kept clears (cleared_step (initial_passes neither))
+      fill_other clears free = fill_kept clears (cleared_step (initial_passes free))
 
       fill_turn : {now' again' : ℕ} {bounds' : Bounds} → Turn site s e now again bounds now' again' bounds'
           → Filling site b s w t now' again' bounds' (set w' (BACKS + t) now')
       fill_turn (resetting clears bounded) = fill_reset (rw is-event at clears) bounded
-      fill_turn (stopping clears both) = fill_load (rw is-event at clears) both
-      fill_turn (passing clears neither) = fill_other (rw is-event at clears) neither
+      fill_turn (stopping clears load other) = fill_load (rw is-event at clears) load other
+      fill_turn (passing clears free) = fill_other (rw is-event at clears) free
 
   -- The gaps are few, and the area has room.
   pub fill_short : s.end ≤ MOST
@@ -259,17 +260,7 @@ module _ {site : Site} {b : Block} {l : ℕ} {s : Segment} {back zeta : ℕ} {w 
       in
       omega (arith, resets (omega (arith, so.inside)))
 
-  -- Up to the first reset, one gap more has the number of the gap after it.
-  pub fill_early : {t now again : ℕ} {bounds : Bounds} {w' : List ℕ}
-      → s.first < t → t ≤ s.reset → Filling site b s w t now again bounds w'
-      → Filling site b s w (t - 1) now again bounds (set w' (BACKS + (t - 1)) now)
-  fill_early {t} {now} {again} {bounds} {w'} first before so =
-      let one : t ≡ suc (t - 1) = omega arith in
-      let from = subst (λ (n : ℕ). Filling site b s w n now again bounds w') one so in
-      let keeps = early (t - 1) (omega arith) (omega (arith, so.inside)) (omega arith) in
-      fill_kept (omega arith) from keeps (λ h. absurd (omega arith))
-
-  -- ---- the last gap, and the first
+  -- ---- the last gap
 
   -- The number of the last gap.
   pub fill_last : {bounds : Bounds} → Bounded (record { least = FAR; most = 0 }) back bounds
@@ -299,16 +290,62 @@ module _ {site : Site} {b : Block} {l : ℕ} {s : Segment} {back zeta : ℕ} {w 
             rw (← e, put) number;
       })
 
-  -- All are filled in.
-  pub fill_all : {t now again : ℕ} {bounds : Bounds} {w' : List ℕ} → t ≤ s.first
-      → Filling site b s w t now again bounds w' → Backed site b l w bounds w'
-  fill_all first so =
-      let kept = kept_between so.frame (omega arith) (omega arith) in
-      record {
-        frame = so.frame;
-        backs =
-            rw (← can.segment)
-            (λ j f h. kept_cost kept can.ready.short (so.filled j (omega arith) h).costs);
-        least = rw (← can.segment) (λ j f h. (so.filled j (omega arith) h).least);
-        most = rw (← can.segment) (λ j f h. (so.filled j (omega arith) h).most);
-      }
+  -- ---- up to the first reset
+
+  module _ {t now again : ℕ} {bounds : Bounds} {w' : List ℕ} (before : t ≤ s.reset)
+      (so : Filling site b s w t now again bounds w') where
+    -- Every gap has the number of gap t.
+    number_early : (d j : ℕ) → s.first ≤ j → j + d ≡ t → Number site b s w bounds j now
+    number_early zero j a e =
+        let there : j ≡ t = omega arith in
+        rw there (rw so.here at (so.filled t (le_refl t) so.inside))
+    number_early (suc d) j a e =
+        let next = number_early d (suc j) (omega arith) (omega arith) in
+        let h : j < s.end = omega (arith, so.inside) in
+        let passes = passes_same k s.copy (event_in w j) s.copy refl (inner j a h) in
+        record {
+          costs =
+              costs_step k w b.end s.copy j (omega (arith, inside)) (inner j a h) s.copy passes
+              (rw (early j a h (omega arith)) next.costs);
+          least = next.least;
+          most = next.most;
+        }
+
+    -- The gaps before gap t are filled in with its number.
+    module _ (n : ℕ) (to : s.first + n ≡ t) where
+      abbrev w'' : List ℕ
+      w'' = put_mid (BACKS + s.first) n w' (replicate n now)
+
+      room : BACKS + s.first + n ≤ length w'
+      room = omega (arith, fill_room so)
+
+      only : OnlyIn (BACKS + s.first) (BACKS + s.first + n) w' w''
+      only = only_filled (BACKS + s.first) n now w' room
+
+      frame : OnlyIn BACKS SEGMENTS w w''
+      frame = only_then so.frame (only_wider only (omega arith) (omega (arith, (fill_room so).1)))
+
+      number : (j : ℕ) → s.first ≤ j → j ≤ s.end → Number site b s w bounds j (back_in w'' j)
+      number j f h =
+          by_test (leb t j)
+          (λ later.
+          let more : t ≤ j = leb→le t j later in
+          rw (get_or_above only (BACKS + j) (omega arith)) (so.filled j more h))
+          (λ sooner.
+          let less : j < t = nleb→lt t j sooner in
+          rw (filled_here (BACKS + s.first) n now w' room (BACKS + j) (omega arith) (omega arith))
+          (number_early (t - j) j f (omega arith)))
+
+      all_filled : Backed site b l w bounds w''
+      all_filled =
+          let kept = kept_between frame (omega arith) (omega arith) in
+          record {
+            frame = frame;
+            backs = rw (← can.segment) (λ j f h. kept_cost kept can.ready.short (number j f h).costs);
+            least = rw (← can.segment) (λ j f h. (number j f h).least);
+            most = rw (← can.segment) (λ j f h. (number j f h).most);
+          }
+
+      pub fill_rest : (xs : List ℕ) → xs ≡ replicate n now
+          → Backed site b l w bounds (put_mid (BACKS + s.first) n w' xs)
+      fill_rest xs filled = rw filled all_filled

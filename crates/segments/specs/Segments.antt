@@ -1,5 +1,5 @@
 -- The segments of a block: from a store to the next one copies have one value.
-use Rattle.std.specs.Prelude.{ℕ, suc, ◌+◌, ◌-◌, ◌≤◌, ◌<◌, ◌≡◌, ◌↔◌, Bool, true, false, cond, not, ◌&&◌, List, eqb, leb, ltb}
+use Rattle.std.specs.Prelude.{ℕ, suc, ◌+◌, ◌-◌, ◌≤◌, ◌<◌, ◌≡◌, ◌↔◌, Bool, true, false, cond, ◌&&◌, List, eqb, leb, ltb, None}
 use Rattle.model.specs.Cxl0.{Value, event}
 use Rattle.model.specs.OneLocation.{Site, clears_site, enabled_at, effect}
 use Rattle.model.specs.Paying.{Pays}
@@ -9,8 +9,9 @@ use Rattle.scratch.specs.Layout.{MOST}
 use Rattle.scratch.specs.Words.{event_in, struct_in, events_from}
 use Rattle.levels.specs.Stretches.{FAR, Stretch, Inner}
 use Rattle.levels.specs.Tasks.{back_in, accepting}
+use Rattle.levels.specs.declared.Closing.TheVariants.{Open}
 use Rattle.segments.specs.Words.{segment_in}
-use Rattle.segments.specs.Costs.{rest_from}
+use Rattle.segments.specs.Costs.{met, rest_from}
 use Rattle.segments.specs.declared.words.Segment.{Segment}
 use Rattle.segments.specs.declared.words.Block.{Block}
 
@@ -31,7 +32,7 @@ pub record Costs (k : Site) (w : List ℕ) (n t : ℕ) (u : Value) (c : ℕ) (m 
 pub record Accepts (k : Site) (w : List ℕ) (b : Block) (s : Segment) (final : Bool) : Type 0 where
   pub enabled : (c : ℕ) (m : Value)
       → enabled_at k (event (event_in w s.end)) (state c s.copy m)
-      ≡ (accepting s.closing (eqb m s.copy) c && cond (final && b.forced) (eqb m b.value) true)
+      ≡ (accepting s.closing (eqb m s.copy) c && cond final (met b.forced m) true)
 
 -- A store follows, after which the next segment begins with its code and copies, and memory as it was.
 pub record Follows (k : Site) (w : List ℕ) (b : Block) (l : ℕ) : Type 0 where
@@ -47,7 +48,7 @@ pub record Follows (k : Site) (w : List ℕ) (b : Block) (l : ℕ) : Type 0 wher
 pub data Closes (k : Site) (w : List ℕ) (b : Block) (l : ℕ) : Type 0 where
   store : Follows k w b l → Closes k w b l
   final : suc l ≡ b.count → suc (segment_in w l).end ≡ b.end → Accepts k w b (segment_in w l) true → Closes k w b l
-  ended : suc l ≡ b.count → (segment_in w l).end ≡ b.end → (segment_in w l).closing ≡ 0 → b.forced ≡ false
+  ended : suc l ≡ b.count → (segment_in w l).end ≡ b.end → (segment_in w l).closing ≡ Open → b.forced ≡ None
       → Closes k w b l
 
 -- ---- segments
@@ -102,9 +103,9 @@ stretch_of k w s m last =
 abbrev pub cleared_of : List ℕ → Block → ℕ → Segment → Value → ℕ
 cleared_of w b l s z = cond (ltb s.reset s.end) (rest_from w b (suc l) z) FAR
 
--- So without a copy, which a read of the value of the copies may not let pass.
+-- The same where no copy is left, or FAR if the closing event does not accept code 0.
 abbrev pub again_of : Segment → (z : Value) → (cleared : ℕ) → ℕ
-again_of s z cleared = cond (eqb s.closing 1 && not (eqb z s.copy)) FAR cleared
+again_of s z cleared = cond (accepting s.closing (eqb z s.copy) 0) cleared FAR
 
 -- What is to pay behind the last gap: after a reset, or else with the memory value of the first gap.
 abbrev pub behind_of : Segment → (cleared kept : ℕ) → ℕ

@@ -1,5 +1,5 @@
 -- Weighing the segments of a block, from the last one to the first: what each call asks and leaves.
-use Rattle.std.specs.Prelude.{ℕ, suc, ◌+◌, ◌-◌, ◌*◌, ◌≤◌, ◌<◌, ◌≡◌, ◌↔◌, ◌⊎◌, Bool, true, false, cond, ◌&&◌, List, T, leb, eqb, ltb, length}
+use Rattle.std.specs.Prelude.{min, max, ℕ, suc, ◌+◌, ◌-◌, ◌*◌, ◌≤◌, ◌<◌, ◌≡◌, ◌↔◌, ◌⊎◌, Bool, true, false, cond, List, T, leb, eqb, ltb, length}
 use Rattle.model.specs.Cxl0.{Value, event}
 use Rattle.model.specs.Sharers.{has}
 use Rattle.model.specs.OneLocation.{enabled_at, effect}
@@ -13,7 +13,7 @@ use Rattle.levels.specs.Stretches.{FAR, Stretch, state_at, Inner}
 use Rattle.levels.specs.Tasks.{back_in, reads_at, back_at, Ready, Tasked, Counted}
 use Rattle.levels.specs.declared.Task.{Task}
 use Rattle.segments.specs.Words.{segment_in, costs_in}
-use Rattle.segments.specs.Costs.{lesser, plus, rest_from, Orderly}
+use Rattle.segments.specs.Costs.{plus, rest_from, Orderly}
 use Rattle.segments.specs.Segments.{Costs, IsSegment, Segmented, Means, Backs}
 use Rattle.segments.specs.declared.words.Segment.{Segment}
 use Rattle.segments.specs.declared.words.Block.{Block}
@@ -69,8 +69,8 @@ task_of site s same last r =
       later = eqb site.initial s.copy;
       writes = true;
       last = last;
-      low = lesser last (r.least + 1);
-      high = cond (ltb last FAR && ltb r.most last) last r.most;
+      low = min last (r.least + 1);
+      high = cond (ltb last FAR) (max last r.most) r.most;
     }
 
 -- The segment without a write-back, and with a memory value that is not that of the copies.

@@ -1,8 +1,10 @@
 -- The words of the segments in the scratch area, two each: the segment, and what it costs.
-use Rattle.std.specs.Prelude.{ℕ, ◌+◌, ◌*◌, ◌/◌, ◌%◌, ◌≤◌, ◌<◌, ◌≡◌, List, get_or}
+use Rattle.std.specs.Prelude.{ℕ, zero, suc, ◌+◌, ◌*◌, ◌/◌, ◌%◌, ◌≤◌, ◌<◌, ◌≡◌, List, get_or}
 use Rattle.scratch.specs.Layout.{SEGMENTS, OnlyIn}
 use Rattle.scratch.specs.Words.{U32}
 use Rattle.levels.specs.Stretches.{FAR}
+use Rattle.levels.specs.declared.Closing.{Closing}
+use Rattle.levels.specs.declared.Closing.TheVariants.{Open, Same, Other}
 use Rattle.segments.specs.declared.words.Segment.{Segment}
 use Rattle.segments.specs.declared.words.Costs.{Costs}
 
@@ -11,6 +13,12 @@ use Rattle.segments.specs.declared.words.Costs.{Costs}
 abbrev pub segment_word : List ℕ → ℕ → ℕ
 segment_word w l = get_or w (SEGMENTS + 2 * l) 0
 
+-- How a segment closes, and the number that stands for it.
+abbrev pub closing_at : ℕ → Closing
+closing_at zero = Open
+closing_at (suc zero) = Same
+closing_at (suc (suc n)) = Other
+
 unfoldable pub segment_in : List ℕ → ℕ → Segment
 segment_in w l =
     record {
@@ -18,7 +26,7 @@ segment_in w l =
       first = segment_word w l / U32 % 256;
       end = segment_word w l / U32 / 256 % 256;
       code = segment_word w l / U32 / 65536 % 64;
-      closing = segment_word w l / U32 / 65536 / 64 % 4;
+      closing = closing_at (segment_word w l / U32 / 65536 / 64 % 4);
       reset = segment_word w l / U32 / 65536 / 256 % 256;
     }
 
@@ -40,7 +48,6 @@ pub record SegmentFits (s : Segment) : Type 0 where
   pub first : s.first < 256
   pub end : s.end < 256
   pub code : s.code < 64
-  pub closing : s.closing < 4
   pub reset : s.reset < 256
 
 pub record CostsFit (c : Costs) : Type 0 where

@@ -9,7 +9,6 @@ ghost use Rattle.entries.specs.Entries.{site_meant};
 ghost use Rattle.segments.specs.Weighing.{Bounded, Backable, Backed};
 ghost use Rattle.segments.specs.Words.{segment_in};
 
-use crate::resting::least_of;
 use crate::words::{Block, Segment};
 use entries::Site;
 use levels::FAR;
@@ -32,20 +31,24 @@ pub fn resets(site: Site, e: Event) -> bool
     if !site.volatile {
         return false;
     }
-    if e.operation == 7 {
-        return site.owner.0 == e.machine.0;
+    let operation = e.operation;
+    match operation {
+        7 => site.owner == e.machine,
+        11 => holds(e.location.0, site.owner),
+        _ => false,
     }
-    (e.operation == 11) & holds(e.location.0, site.owner)
 }
 
-// The bounds with one number more.
-fn with(b: Bounds, n: u64) -> Bounds
-    ensures { Bounded b n result }
-{
-    let more = if n < FAR { n + 1 } else { 0 };
-    Bounds {
-        least: least_of(b.least, n),
-        most: if b.most <= more { more } else { b.most },
+impl Bounds {
+    // The bounds with one number more.
+    fn with(self, n: u64) -> Bounds
+        ensures { Bounded self n result }
+    {
+        let more = if n < FAR { n + 1 } else { 0 };
+        Bounds {
+            least: self.least.min(n),
+            most: self.most.max(more),
+        }
     }
 }
 
@@ -63,34 +66,25 @@ pub fn fill_backs(
     requires { Backable site b l back zeta w.old × (s ≡ segment_in w.old l) × OneToSix site.owner.0 }
     ensures { Backed site b l w.old result w.new }
 {
-    let mut t = s.end;
     let mut now = back;
     let mut again = zeta;
-    let mut bounds = with(
-        Bounds {
-            least: FAR,
-            most: 0,
-        },
-        back,
-    );
-    w[BACKS + t] = now;
-    while s.reset < t {
-        t -= 1;
-        let e = get_event(&*w, t);
+    let none = Bounds {
+        least: FAR,
+        most: 0,
+    };
+    let mut bounds = none.with(back);
+    w[BACKS + s.end] = now;
+    for t in (s.reset..s.end).rev() {
+        let e = get_event(w, t);
         if resets(site, e) {
             now = again;
-            bounds = with(bounds, now);
-        } else {
-            if (e.operation == 4) & (site.initial != s.copy) {
-                again = FAR;
-            }
+            bounds = bounds.with(now);
+        } else if e.operation == 4 && site.initial != s.copy {
+            again = FAR;
         }
         w[BACKS + t] = now;
     }
     // Up to the first reset, nothing changes what is left to pay.
-    while s.first < t {
-        t -= 1;
-        w[BACKS + t] = now;
-    }
+    w[BACKS + s.first..BACKS + s.reset.min(s.end)].fill(now);
     bounds
 }

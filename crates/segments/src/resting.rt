@@ -1,32 +1,28 @@
 // What the segments of a block cost from one of them on, with a given memory value.
 ghost use Rattle.std.specs.Prelude.{◌+◌, ◌≤◌, ◌<◌, ◌≡◌};
 ghost use Rattle.levels.specs.Stretches.{FAR};
-ghost use Rattle.segments.specs.Costs.{lesser, plus, ending, rest_from, other_from};
+ghost use Rattle.segments.specs.Costs.{plus, ending, rest_from, other_from};
 ghost use Rattle.segments.specs.Weighing.{Restable};
 
 use crate::words::{Block, get_costs, get_value};
 use levels::FAR;
 
-// The lesser of two numbers.
-pub(crate) fn least_of(a: u64, b: u64) -> u64
-    ensures { result ≡ lesser a b }
-{
-    if a <= b { a } else { b }
-}
-
-// Their sum, but no more than FAR.
+// The sum of two numbers, but no more than FAR.
 pub(crate) fn add(a: u64, b: u64) -> u64
     requires { (a ≤ FAR) × (b ≤ FAR) }
     ensures { result ≡ plus a b }
 {
-    least_of(a + b, FAR)
+    (a + b).min(FAR)
 }
 
 // What is to pay after the last segment.
 fn after_all(b: Block, m: u32) -> u64
     ensures { result ≡ ending b m }
 {
-    if b.forced & (m != b.value) { FAR } else { 0 }
+    match b.forced {
+        Some(value) if value != m => FAR,
+        _ => 0,
+    }
 }
 
 // What is to pay from segment l on, with a memory value that no event of the block reads.
@@ -37,7 +33,7 @@ pub(crate) fn other(w: &[u64], b: Block, l: usize) -> u64
     if l < b.count {
         return get_costs(w, l).other;
     }
-    if b.forced { FAR } else { 0 }
+    if b.forced.is_some() { FAR } else { 0 }
 }
 
 // What is to pay from segment `from` on with memory value m. It is as good as any value; or it is kept up to the next
@@ -47,19 +43,17 @@ pub fn rest(w: &[u64], b: Block, from: usize, m: u32) -> u64
     ensures { result ≡ rest_from w.now b from m }
 {
     let never = other(w, b, from);
-    let mut l = from;
     let mut kept: u64 = 0;
-    while l < b.count {
+    for l in from..b.count {
         let costs = get_costs(w, l);
         if get_value(w, l) == m {
-            return least_of(never, add(kept, costs.same));
+            return never.min(add(kept, costs.same));
         }
         kept = add(kept, costs.keep);
-        // To keep it costs more than it can spare.
+        // To keep the value costs no less than any other value.
         if never <= kept {
             return never;
         }
-        l += 1;
     }
-    least_of(never, add(kept, after_all(b, m)))
+    never.min(add(kept, after_all(b, m)))
 }

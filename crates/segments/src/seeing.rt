@@ -1,11 +1,9 @@
 // How far a segment's events go without a silent step.
-ghost use Rattle.std.specs.Prelude.{◌≡◌, false, ◌≢◌};
-ghost use Rattle.levels.specs.Tasks.{accepting};
+ghost use Rattle.std.specs.Prelude.{◌≡◌, ◌≢◌};
 ghost use Rattle.segments.specs.Weighing.{Seeable, Seeing};
 
 use crate::words::Segment;
 use entries::Site;
-use levels::{OPEN, SAME};
 use masks::holds;
 use scratch::{Waypoint, get_event};
 use walking::act_at;
@@ -26,31 +24,17 @@ fn unlike(u: u32) -> u32
     if u == 0 { 1 } else { 0 }
 }
 
-// The event that closes the segment accepts the code, with a memory value that is not that of the copies.
-fn closes(s: Segment, code: u8) -> bool
-    ensures { result ≡ accepting s.closing false code }
-{
-    let closing = s.closing;
-    if closing == OPEN {
-        return true;
-    }
-    if closing == SAME {
-        return code != 0;
-    }
-    code == 0
-}
-
-// Follows the events from the first code on. All along memory has a value that is not that of the copies; what is
-// possible with it is possible with every value, and what is not is so with that of the copies only without a copy.
+// Follows the events from the first code on, with a value in memory that is not that of the copies. An event that is
+// possible with it is possible with every memory value. One that is not is possible with the copies' value in memory
+// only if no copy is left.
 pub(crate) fn see(w: &[u64], site: Site, s: Segment) -> Seen
     requires { Seeable site s w.now }
     ensures { Seeing site s w.now result }
 {
     let memory = unlike(s.copy);
-    let mut t = s.first;
     let mut code = s.code;
     let mut owned = holds(code, site.owner);
-    while t < s.end {
+    for t in s.first..s.end {
         let here = Waypoint {
             code,
             memory,
@@ -65,13 +49,12 @@ pub(crate) fn see(w: &[u64], site: Site, s: Segment) -> Seen
             };
         }
         code = made.entry.sharers;
-        owned = owned | holds(code, site.owner);
-        t += 1;
+        owned |= holds(code, site.owner);
     }
-    let other = closes(s, code);
+    let other = s.closing.accepts(false, code);
     Seen {
         other,
-        same: other | (code == 0),
+        same: other || code == 0,
         owned,
     }
 }

@@ -8,12 +8,11 @@ ghost use Rattle.segments.specs.Weighing.{Keepable, Keeps, spared_of, only_below
 ghost use Rattle.segments.specs.Weighing.{Weighable, Weighed};
 
 use crate::backing::{Bounds, fill_backs};
-use crate::resting::{add, least_of, other, rest};
+use crate::resting::{add, other, rest};
 use crate::seeing::{Seen, see};
 use crate::words::{Block, Costs, Segment, get_segment, put_costs};
 use entries::Site;
-use levels::{FAR, SAME, Task, fewest};
-use model::Machine;
+use levels::{FAR, Task, fewest};
 
 // What is to pay with a memory value that no event reads, and to keep one that the segment does not read.
 #[derive(Clone, Copy)]
@@ -27,14 +26,14 @@ pub fn task(site: Site, s: Segment, same: bool, last: u64, bounds: Bounds) -> Ta
     requires { bounds.least ≤ FAR }
     ensures { result ≡ task_of site s same last bounds }
 {
-    let low = least_of(last, bounds.least + 1);
-    let high = if (last < FAR) & (bounds.most < last) {
-        last
+    let low = last.min(bounds.least + 1);
+    let high = if last < FAR {
+        last.max(bounds.most)
     } else {
         bounds.most
     };
     Task {
-        owner: Machine(site.owner.0),
+        owner: site.owner,
         end: s.end,
         closing: s.closing,
         reset: s.reset,
@@ -47,21 +46,14 @@ pub fn task(site: Site, s: Segment, same: bool, last: u64, bounds: Bounds) -> Ta
     }
 }
 
-// The segment without a write-back, and with a memory value that is not that of the copies.
+// The same without a write-back, with a memory value that is not that of the copies, and nothing to pay behind it.
 fn keeping(site: Site, s: Segment) -> Task
     ensures { result ≡ keeping_of site s }
 {
+    let none = Bounds { least: 0, most: 0 };
     Task {
-        owner: Machine(site.owner.0),
-        end: s.end,
-        closing: s.closing,
-        reset: s.reset,
-        same: false,
-        later: site.initial == s.copy,
         writes: false,
-        last: 0,
-        low: 0,
-        high: 0,
+        ..task(site, s, false, 0, none)
     }
 }
 
@@ -77,14 +69,14 @@ pub fn cleared(w: &[u64], site: Site, b: Block, l: usize, s: Segment) -> u64
     }
 }
 
-// So without a copy, which a read of the value of the copies may not let pass.
+// What `cleared` gives, where no copy is left; FAR if the closing event does not accept that.
 pub fn again(site: Site, s: Segment, after: u64) -> u64
     ensures { result ≡ again_of s site.initial after }
 {
-    if (s.closing == SAME) & (site.initial != s.copy) {
-        FAR
-    } else {
+    if s.closing.accepts(site.initial == s.copy, 0) {
         after
+    } else {
+        FAR
     }
 }
 
@@ -126,7 +118,7 @@ fn same_cost(w: &mut [u64], site: Site, s: Segment, q: Task, back: u64, seen: Se
     if paid <= back + 1 {
         return paid;
     }
-    least_of(paid, fewest(w, q, s.first, s.code, paid))
+    paid.min(fewest(w, q, s.first, s.code, paid))
 }
 
 // What keeping a memory value costs in a segment without a reset. From `below` on, that is no better than any value.
@@ -134,7 +126,7 @@ fn keep(w: &mut [u64], site: Site, s: Segment, below: u64, seen: Seen) -> u64
     requires { Keepable site s below w.old × Seeing site s w.old seen }
     ensures { Keeps site s below w.old result w.new }
 {
-    if seen.other & (0 < below) {
+    if seen.other && 0 < below {
         return 0;
     }
     if below <= 1 {
@@ -150,7 +142,7 @@ fn spared(a: u64, b: u64) -> u64
     if FAR <= a {
         return FAR;
     }
-    if a <= b { 0 } else { a - b }
+    a.saturating_sub(b)
 }
 
 // The number, if it is below the bound, else FAR.
@@ -182,7 +174,7 @@ fn other_costs(
     }
     let paid = written(s, back, seen);
     let kept = keep(w, site, s, spared(paid, least), seen);
-    let other = least_of(paid, add(kept, q.last));
+    let other = paid.min(add(kept, q.last));
     Others {
         other,
         keep: only_below(kept, spared(other, least)),
@@ -195,12 +187,12 @@ pub fn weigh(w: &mut [u64], site: Site, b: Block, l: usize, least: u64) -> u64
     requires { Weighable site b l least w.old }
     ensures { Weighed site b l w.old result w.new }
 {
-    let s = get_segment(&*w, l);
-    let back = rest(&*w, b, l + 1, s.copy);
-    let next = other(&*w, b, l + 1);
-    let after = cleared(&*w, site, b, l, s);
+    let s = get_segment(w, l);
+    let back = rest(w, b, l + 1, s.copy);
+    let next = other(w, b, l + 1);
+    let after = cleared(w, site, b, l, s);
     let bounds = fill_backs(w, site, b, l, s, back, again(site, s, after));
-    let seen = see(&*w, site, s);
+    let seen = see(w, site, s);
     let same = same_cost(
         w,
         site,
@@ -228,5 +220,5 @@ pub fn weigh(w: &mut [u64], site: Site, b: Block, l: usize, least: u64) -> u64
             back,
         },
     );
-    least_of(least_of(same, others.other), add(others.keep, least))
+    same.min(others.other).min(add(others.keep, least))
 }

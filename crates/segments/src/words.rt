@@ -1,19 +1,21 @@
 // The words of the segments in the scratch area, as specs/Words.antt has them.
 ghost use Rattle.std.specs.Prelude.{◌+◌, ◌≤◌, ◌≡◌, length};
 ghost use Rattle.scratch.specs.Layout.{WORDS, MOST};
-ghost use Rattle.segments.specs.Words.{segment_in, costs_in, SegmentFits, CostsFit, SegmentPut, CostsPut};
+ghost use Rattle.segments.specs.Words.{closing_at, segment_in, costs_in, SegmentFits, CostsFit, SegmentPut, CostsPut};
 
+use levels::Closing;
 use scratch::{SEGMENTS, U32};
 
 // A segment: the value of its copies, its first and its last gap, the code at the first one, how it closes, and the
-// first event that resets memory, or a number that is not below `end`.
+// first event that resets memory, or a number that is not below `end` (no Option: it is a byte of the segment's word,
+// and is only compared with gaps).
 #[derive(Clone, Copy)]
 pub struct Segment {
     pub copy: u32,
     pub first: usize,
     pub end: usize,
     pub code: u8,
-    pub closing: u8,
+    pub closing: Closing,
     pub reset: usize,
 }
 
@@ -28,16 +30,27 @@ pub struct Costs {
     pub back: u64,
 }
 
-// How many segments a block has, where it ends, and whether that is with a read of `value` from memory.
+// How many segments a block has, where it ends, and the value that the event at its end must read from memory, if any.
 #[derive(Clone, Copy)]
 pub struct Block {
     pub count: usize,
     pub end: usize,
-    pub forced: bool,
-    pub value: u32,
+    pub forced: Option<u32>,
+}
+
+// How a segment closes, by the number of two bits that stands for it.
+fn closing_at(number: u64) -> Closing
+    ensures { result ≡ closing_at number }
+{
+    match number {
+        0 => Closing::Open,
+        1 => Closing::Same,
+        _ => Closing::Other,
+    }
 }
 
 // Segment l.
+#[tactic(auto, unfolding(crate::specs::Words::segment_in))]
 pub fn get_segment(w: &[u64], l: usize) -> Segment
     requires { (WORDS ≤ length w.now) × (l ≤ MOST) }
     ensures { result ≡ segment_in w.now l }
@@ -49,7 +62,7 @@ pub fn get_segment(w: &[u64], l: usize) -> Segment
         first: (above % 256) as usize,
         end: (above / 256 % 256) as usize,
         code: (above / 65536 % 64) as u8,
-        closing: (above / 65536 / 64 % 4) as u8,
+        closing: closing_at(above / 65536 / 64 % 4),
         reset: (above / 65536 / 256 % 256) as usize,
     }
 }
@@ -65,6 +78,7 @@ pub fn put_segment(w: &mut [u64], l: usize, s: Segment)
 }
 
 // The value of the copies of segment l.
+#[tactic(auto, unfolding(crate::specs::Words::segment_in))]
 pub(crate) fn get_value(w: &[u64], l: usize) -> u32
     requires { (WORDS ≤ length w.now) × (l ≤ MOST) }
     ensures { result ≡ (segment_in w.now l).copy }
@@ -73,6 +87,7 @@ pub(crate) fn get_value(w: &[u64], l: usize) -> u32
 }
 
 // The costs of segment l.
+#[tactic(auto, unfolding(crate::specs::Words::costs_in))]
 pub fn get_costs(w: &[u64], l: usize) -> Costs
     requires { (WORDS ≤ length w.now) × (l ≤ MOST) }
     ensures { result ≡ costs_in w.now l }

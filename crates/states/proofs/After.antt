@@ -10,6 +10,8 @@ use borrow.Author.Tests.{ne_eqb}
 use lib.Dec.{T, eqb, ltb, ltb→lt, nltb→le}
 use lib.ListN.{length, get_or, get_or-eq_default}
 use lib.Seq.{ext_get_or}
+use Rattle.std.specs.Prelude.{Option}
+use Rattle.std.specs.Bool.{then_some}
 use Rattle.model.specs.Cxl0.{Location, nowhere, is_machine, is_location, initial, clears}
 use Rattle.model.specs.Cxl0.{Event, Crash, SetCrash, Propagate, WriteBack}
 use Rattle.model.specs.Cxl0.{Action, event, silent, named, enabled, possible, next}
@@ -20,9 +22,8 @@ use Rattle.model.specs.declared.Topology as topology
 use Rattle.entries.specs.Entries.{short_of, masked_to, empty_entry}
 use Rattle.entries.specs.declared.Entry as entry
 use Rattle.states.specs.States.{entry_at, local_of, state_of, outcome_of}
-use Rattle.states.specs.States.{next_entry, entries_after, state_after, answer, stepped_of}
+use Rattle.states.specs.States.{next_entry, entries_after, state_after, stepped_of, Answers}
 use Rattle.states.specs.declared.State as state
-use Rattle.states.specs.declared.Stepped as stepped
 use Rattle.model.proofs.Tests.{and_i, and_l, and_r, by_test, T→true, not→false}
 use Rattle.model.proofs.Sharers.{remove_le, remove_all_le}
 use Rattle.model.proofs.Locations.{IsCrash, single, several, located, crash_nowhere, crash_everywhere, named_location}
@@ -167,27 +168,25 @@ module _ (t : topology.Topology) (a : Action) (s : state.State) (room : length s
       ap expand (fun_ext (forms_after (and_i (within_limits t) (named sys a) l n)))
       ∙ sym (next_expand sys (forms t s) (within t l).well-formed (in_range t s) a p)
 
--- What each method ensures of its answer r to an action.
-abbrev pub Right : topology.Topology → Action → state.State → stepped.Stepped → Type 0
-Right t a s r =
-    (outcome_of t r ≡ attempt t a (state_of t s)) × ((r.possible ≡ false → r.state ≡ s) × (r ≡ stepped_of t a s))
-
 -- An answer says what `attempt` says of the whole system's state, if its state stands for the one after the action.
 outcome : (t : topology.Topology) (a : Action) (s after : state.State) (p : Bool)
     → p ≡ (within_limits t && possible (topology_of t) a (state_of t s))
     → (T p → state_of t after ≡ next (topology_of t) a (state_of t s))
-    → outcome_of t (answer p after s) ≡ attempt t a (state_of t s)
-unfolding outcome_of attempt
+    → outcome_of t s (then_some p after) ≡ attempt t a (state_of t s)
+unfolding attempt
 outcome t a s after true e f = rw (← e) (λ i. record { possible = true; state = f tt i })
 outcome t a s after false e f = rw (← e)
 
--- An answer is right if it says whether the action is possible and has, where it is, the state after it.
+-- What says whether the action is possible and has, where it is, the state after it, answers the action.
 pub answered : (t : topology.Topology) (a : Action) (s : state.State) → length s.entries ≡ 32
     → {p : Bool} → p ≡ (within_limits t && possible (topology_of t) a (state_of t s))
     → {after : state.State} → after ≡ state_after t a s
-    → {r : stepped.Stepped} → r ≡ answer p after s
-    → Right t a s r
+    → {r : Option state.State} → r ≡ then_some p after
+    → Answers t a s r
 unfolding stepped_of
 answered t a s room can f k =
-    let e : _ ≡ stepped_of t a s = k ∙ ap₂ (λ (p : Bool) (r : state.State). answer p r s) can f in
-    (rw e (outcome t a s (state_after t a s) _ refl (state-after t a s room)), (rw e (λ z. rw z), e))
+    let e : _ ≡ stepped_of t a s = k ∙ ap₂ then_some can f in
+    record {
+      meaning = rw e (outcome t a s (state_after t a s) _ refl (state-after t a s room));
+      whole = e;
+    }

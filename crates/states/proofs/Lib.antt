@@ -1,6 +1,4 @@
 pub mod Effects
-pub mod Filling
-pub mod Homes
 pub mod Starts
 pub mod After
 pub mod Settled

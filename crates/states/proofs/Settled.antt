@@ -1,10 +1,15 @@
 -- An action at one location: to put the entry after it into the location's place is the answer to the action.
-use Prim.Native.Nat.{◌<◌}
+use Prim.Native.Nat.{ℕ, ◌<◌, ◌≤◌}
+use native.Mathlib.Omega.{arith}
 use mathlib.Core.Path.{◌≡◌, refl, ap, ◌∙◌}
-use mathlib.Core.Bool.{Bool, true, false, cond, ◌&&◌, and_assoc}
+use mathlib.Core.Logic.{◌≢◌}
+use mathlib.Core.Bool.{◌||◌, true, false, ◌&&◌, and_assoc}
+use borrow.Author.Tests.{le-leb, ne_eqb}
 use lib.Dec.{T, eqb, eqb→eq, eqb_refl}
-use lib.ListN.{length, get_or, set, length-set}
-use lib.Seq.{set-get_or, get_or-set_same, get_or-set_other}
+use lib.ListN.{length, set, length-set}
+use lib.Seq.{get_or-set_same, get_or-set_other}
+use Rattle.std.specs.Prelude.{Option, None}
+use Rattle.std.specs.Bool.{then_some}
 use Rattle.model.specs.Cxl0
 use Rattle.model.specs.Cxl0.{Machine, Location, Action, is_machine, is_location, named, possible}
 use Rattle.model.specs.OneLocation.{Site, concerns, event_at, is_here_or_nowhere, site_of}
@@ -15,15 +20,14 @@ use Rattle.model.specs.declared.Topology as topology
 use Rattle.entries.specs.Entries.{empty_entry, masked_to, acted_of, acted_by}
 use Rattle.entries.specs.declared.Entry as entry
 use Rattle.entries.specs.declared.Acted as acted
-use Rattle.states.specs.States.{entry_at, local_of, state_of, entry_after, state_after, outcome_of, answer}
+use Rattle.states.specs.States.{entry_at, local_of, state_of, entry_after, state_after, Answers}
 use Rattle.states.specs.declared.State as state
-use Rattle.states.specs.declared.Stepped as stepped
 use Rattle.model.proofs.Tests.{and_r, by_test, T→true, true→T, not→false, ne_test}
 use Rattle.model.proofs.Limits.{listed_e}
 use Rattle.model.proofs.Operations.{located_numbers, at-location, named_at_location}
 use Rattle.model.proofs.Expand.{enabled_expand}
 use Rattle.states.proofs.Effects.{asked, admits}
-use Rattle.states.proofs.After.{forms, in_range, all_after, Right, answered}
+use Rattle.states.proofs.After.{forms, in_range, all_after, answered}
 
 module _ (t : topology.Topology) (a : Action) (s : state.State) (x : Location)
     (alone : (y : Location) → concerns y a ≡ eqb y x) where
@@ -52,36 +56,19 @@ module _ (t : topology.Topology) (a : Action) (s : state.State) (x : Location)
       rw (enabled_expand (topology_of t) (forms t s) (in_range t s) a x c)
       (and_assoc (within_limits t) (named (topology_of t) a) (asked t a x (entry_at s x)))
 
-  -- To put back what an action makes of the entry, or the entry itself, is to replace it where the action is enabled.
-  put_back : (m : acted.Acted)
-      → record { entries = set s.entries x (cond m.enabled m.entry (entry_at s x)) }
-      ≡ cond m.enabled (record { entries = set s.entries x m.entry }) s
-  unfolding entry_at
-  put_back m = go m.enabled
-    where
-      go : (b : Bool)
-          → record { entries = set s.entries x (cond b m.entry (get_or s.entries x empty_entry)) }
-          ≡ cond b (record { entries = set s.entries x m.entry }) s
-      go true = refl
-      go false = λ i. record { entries = set-get_or s.entries x empty_entry i }
-
   -- Where the topology admits the action, its answer is what it makes of the entry of x, put into its place.
   pub settled : length s.entries ≡ 32 → admits t a ≡ true
       → {m : acted.Acted} → m ≡ acted_of (site_of (topology_of t) x) a (masked_to t.machines (entry_at s x))
-      → {after : entry.Entry} → after ≡ cond m.enabled m.entry (entry_at s x)
-      → Right t a s (record { possible = m.enabled; state = record { entries = set s.entries x after } })
+      → {r : Option state.State} → r ≡ then_some m.enabled (record { entries = set s.entries x m.entry })
+      → Answers t a s r
   unfolding acted_of local_of entry_after
-  settled room let_in {m} g f =
-      let put : entry.Entry → state.State = λ e. record { entries = set s.entries x e } in
-      let made = ap (λ (m : acted.Acted). answer m.enabled (put m.entry) s) g in
-      let back = ap put f ∙ put_back m in
-      answered t a s room (rw let_in at can) placed
-      (ap (λ (r : state.State). record { possible = m.enabled; state = r }) back ∙ made)
+  settled room let_in g k =
+      let enabled = ap (λ (m : acted.Acted). m.enabled) g in
+      let put = ap (λ (m : acted.Acted). record { entries = set s.entries x m.entry }) g in
+      answered t a s room (enabled ∙ rw let_in at can) (put ∙ placed) k
 
   -- Where it does not, the action is refused.
-  pub turned_away : length s.entries ≡ 32 → admits t a ≡ false
-      → {r : stepped.Stepped} → r ≡ record { possible = false; state = s }
-      → Right t a s r
+  pub turned_away : length s.entries ≡ 32 → admits t a ≡ false → {r : Option state.State} → r ≡ None → Answers t a s r
   turned_away room never k = answered t a s room (rw never at can) refl k
 
 -- A location of the system has a place among the entries.
@@ -95,6 +82,13 @@ module _ (t : topology.Topology) (room : length t.homes ≡ 32) (x : Location) w
       let m = is_machine (topology_of t) i in
       let l = is_location (topology_of t) x in
       (listed_e t room x (T→true (and_r m l (and_r (within_limits t) (m && l) (true→T e))))).1
+
+-- The numbers of the events at a location.
+pub located : (op : ℕ) → (1 ≤ op) × (op ≤ 10) × (op ≢ 7) → T (is_located op)
+unfolding is_located is_operation
+located op (low, high, no_crash) =
+    let rest : (eqb op 7 || eqb op 11) ≡ false = rw (ne_eqb op 7 no_crash) (ne_eqb op 11 (λ f. omega arith)) in
+    rw (le-leb 1 op low, le-leb op 11 (omega arith), rest) tt
 
 -- An event at its location, by its number.
 module _ (t : topology.Topology) (e : event.Event) (at : T (is_located e.operation)) where
@@ -113,11 +107,3 @@ module _ (t : topology.Topology) (e : event.Event) (at : T (is_located e.operati
       → m ≡ acted_of k (Cxl0.event (meant e)) held
   unfolding acted_by
   acts k held g = rw (T→true {b = is_operation e.operation} (located_numbers at).0) at g
-
--- What is refused leaves the state as it was.
-pub refused : (t : topology.Topology) (s : state.State) {r : stepped.Stepped}
-    → r ≡ record { possible = false; state = s }
-    → (outcome_of t r ≡ record { possible = false; state = state_of t s })
-    × ((r.possible ≡ false → r.state ≡ s) × (r ≡ record { possible = false; state = s }))
-unfolding outcome_of
-refused t s same = (rw same refl, (λ _. ap (λ (r : stepped.Stepped). r.state) same, same))

@@ -3,9 +3,9 @@ use Prim.Native.Nat.{ℕ, zero, suc, ◌+◌, ◌<◌, ◌≤◌, ◌^◌}
 use native.Mathlib.Nat.{not-suc-le-zero, le_of_suc-le-suc, zero-mod}
 use native.Mathlib.Omega.{arith}
 use mathlib.Core.Path.{◌≡◌, refl, sym, ap, ◌∙◌, fun_ext}
-use mathlib.Core.Bool.{false, cond, and-false}
+use mathlib.Core.Bool.{false, and-false}
 use mathlib.Core.List.{List}
-use borrow.Author.Tests.{lt-ltb, le-ltb}
+use borrow.Author.Tests.{le-ltb}
 use lib.Dec.{ltb, ltb→lt, nltb→le}
 use lib.ListN.{length, get_or, get_or-eq_default}
 use lib.Seq.{ext_get_or}
@@ -35,22 +35,19 @@ module _ (sys : Topology) where
       let z : x + suc y ≡ suc x + y = omega arith in rw z (start-at n (suc x) y (le_of_suc-le-suc l))
 
 module _ (t : topology.Topology) where
-  -- The entry of location y once those before `at` are filled.
-  abbrev pub partly : ℕ → Location → entry.Entry
-  partly at y = cond (ltb y at) (start_entry (initial (topology_of t) y)) empty_entry
-
-  -- Entries that are all filled are those at the start.
-  pub all_filled : (es : List entry.Entry) (at : ℕ) → length es ≡ 32 → 32 ≤ at
-      → ((y : ℕ) → get_or es y empty_entry ≡ partly at y) → record { entries = es } ≡ start_state t
+  -- Entries that all have their initial values are those at the start.
+  pub all_filled : (es : List entry.Entry) → length es ≡ 32
+      → ((y : ℕ) → y < 32 → get_or es y empty_entry ≡ start_entry (initial (topology_of t) y))
+      → record { entries = es } ≡ start_state t
   unfolding start_state
-  all_filled es at e all f =
+  all_filled es e f =
       let sys = topology_of t in
       let p =
       ext_get_or empty_entry es (start_entries sys 32 0) (e ∙ sym (start_length sys 32 0))
       (λ y l.
       let k : y < 32 = rw e at l in
       let z : 0 + y ≡ y = omega arith in
-      f y ∙ rw (lt-ltb y at (omega arith)) (sym (rw z at (start-at sys 32 0 y k)))) in
+      f y k ∙ sym (rw z at (start-at sys 32 0 y k))) in
       λ i. record { entries = p i }
 
   -- An entry with the initial value stands for the short form that a location has at the start.

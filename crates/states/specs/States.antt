@@ -1,16 +1,17 @@
 -- What the program's states and answers mean, and what an action makes of them, in the words of `Cxl0`.
-use Rattle.std.specs.Prelude.{ℕ, zero, suc, Bool, false, cond, ◌&&◌, List, [], ◌∷◌, get_or}
+use Rattle.std.specs.Prelude.{ℕ, zero, suc, ◌≡◌, true, false, cond, ◌&&◌, List, [], ◌∷◌, get_or}
+use Rattle.std.specs.Prelude.{Option, Some, None}
+use Rattle.std.specs.Bool.{then_some}
 use Rattle.model.specs.Cxl0
 use Rattle.model.specs.Cxl0.{Location, Topology, initial, State, Action, possible}
 use Rattle.model.specs.OneLocation.{Local, expand, concerns, site_of, effect}
 use Rattle.model.specs.Operations.{is_operation}
-use Rattle.model.specs.Meaning.{topology_of, within_limits, Outcome, meant}
+use Rattle.model.specs.Meaning.{topology_of, within_limits, Outcome, attempt, meant}
 use Rattle.model.specs.declared.Event as event
 use Rattle.model.specs.declared.Topology as topology
 use Rattle.entries.specs.Entries.{short_of, entry_of, start_entry, empty_entry, masked_to}
 use Rattle.entries.specs.declared.Entry as entry
 use Rattle.states.specs.declared.State as state
-use Rattle.states.specs.declared.Stepped as stepped
 
 -- The entry of a location; one past the end is empty.
 unfoldable pub entry_at : state.State → Location → entry.Entry
@@ -23,8 +24,10 @@ local_of n e = short_of (masked_to n e)
 unfoldable pub state_of : topology.Topology → state.State → State
 state_of t s = expand (λ x. local_of t.machines (entry_at s x))
 
-unfoldable pub outcome_of : topology.Topology → stepped.Stepped → Outcome
-outcome_of t r = record { possible = r.possible; state = state_of t r.state }
+-- The answer to an action in the state s: the state after it, or none if it is not possible; then s stays.
+abbrev pub outcome_of : topology.Topology → state.State → Option state.State → Outcome
+outcome_of t s (Some after) = record { possible = true; state = state_of t after }
+outcome_of t s None = record { possible = false; state = state_of t s }
 
 -- At the start: n entries from location x on, and those of all 32 locations.
 unfoldable pub start_entries : Topology → (n : ℕ) → Location → List entry.Entry
@@ -50,16 +53,15 @@ entries_after t a x (e ∷ es) = next_entry t a x e ∷ entries_after t a (suc x
 unfoldable pub state_after : topology.Topology → Action → state.State → state.State
 state_after t a s = record { entries = entries_after t a 0 s.entries }
 
--- The answer to an action: whether it is possible, and the state after it or, if it is not, the same state.
-abbrev pub answer : Bool → state.State → state.State → stepped.Stepped
-answer p after s = record { possible = p; state = cond p after s }
-
-unfoldable pub stepped_of : topology.Topology → Action → state.State → stepped.Stepped
-stepped_of t a s = answer (within_limits t && possible (topology_of t) a (state_of t s)) (state_after t a s) s
+unfoldable pub stepped_of : topology.Topology → Action → state.State → Option state.State
+stepped_of t a s = then_some (within_limits t && possible (topology_of t) a (state_of t s)) (state_after t a s)
 
 -- The answer to an event by its operation number. A number that is no operation's is not possible.
-unfoldable pub applied_of : topology.Topology → event.Event → state.State → stepped.Stepped
-applied_of t e s =
-    cond (is_operation e.operation)
-    (stepped_of t (Cxl0.event (meant e)) s)
-    (record { possible = false; state = s })
+abbrev pub applied_of : topology.Topology → event.Event → state.State → Option state.State
+applied_of t e s = cond (is_operation e.operation) (stepped_of t (Cxl0.event (meant e)) s) None
+
+-- r answers the action a in the state s: it means what `attempt` says of the whole system, and it has the state after a
+-- entry by entry.
+pub record Answers (t : topology.Topology) (a : Action) (s : state.State) (r : Option state.State) : Type 0 where
+  pub meaning : outcome_of t s r ≡ attempt t a (state_of t s)
+  pub whole : r ≡ stepped_of t a s

@@ -63,9 +63,9 @@ follow_from ws i least h =
     (in_order p.before events_most rest))
 
 -- A word is a step of three bytes if it is below 2 ^ 24: then its highest number, the machine, fits a byte.
-pub three-bytes : (w : ℕ) → three_bytes (step_of_word w) ≡ ltb w (2 ^ 24)
+pub packed_step : (w : ℕ) → three_bytes (step_of_word w) ≡ ltb w (2 ^ 24)
 unfolding three_bytes step_of_word
-three-bytes w =
+packed_step w =
     rw (lt-ltb (w % 256) 256 (omega arith), lt-ltb (w / 256 % 256) 256 (omega arith))
     (same_test (ltb (w / 65536) 256) (ltb w (2 ^ 24))
     (λ t. lt→ltb w (2 ^ 24) (omega (arith, ltb→lt (w / 65536) 256 t)))
@@ -76,7 +76,7 @@ unfolding all_three_bytes
 bytes_at [] i h t = absurd (not-suc-le-zero h)
 bytes_at (w ∷ ws) zero h t =
     let first = and_l (three_bytes (step_of_word w)) (all_three_bytes (map step_of_word ws)) t in
-    ltb→lt w (2 ^ 24) (rw three-bytes at first)
+    ltb→lt w (2 ^ 24) (rw packed_step at first)
 bytes_at (w ∷ ws) (suc i) h t =
     bytes_at ws i (le_of_suc-le-suc h) (and_r (three_bytes (step_of_word w)) (all_three_bytes (map step_of_word ws)) t)
 

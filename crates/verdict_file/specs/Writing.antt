@@ -5,10 +5,17 @@ use Rattle.model.specs.Words.{step_of_word}
 use Rattle.fields.specs.Put.{put}
 use Rattle.verdict_file.specs.Files.{Verdict, allowed, impossible, file_of, steps_most, file_most, events_most}
 use Rattle.verdict_file.specs.Answers.{Answer, gives, refused}
+use Rattle.verdict_file.specs.declared.filling.Verdict as told
+use Rattle.verdict_file.specs.declared.filling.Verdict.TheVariants.{Allowed, Impossible}
 
 -- The verdict whose steps these words hold.
 abbrev pub allowed_by : List ℕ → Verdict
 allowed_by ws = allowed (map step_of_word ws)
+
+-- The verdict that a file is to say.
+abbrev pub said : told.Verdict → Verdict
+said (Allowed steps) = allowed_by steps.now
+said (Impossible event) = impossible event
 
 -- A step has three bytes: each of its numbers fits one.
 unfoldable pub three_bytes : Step → Bool

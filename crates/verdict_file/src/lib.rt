@@ -1,15 +1,16 @@
 // What a verdict's bytes say. `write_allowed` and `write_impossible` put a verdict file into the output at an
-// offset, or change nothing. specs/Files.antt has the bytes, specs/Schedules.antt what they give to a reader.
+// offset, or change nothing. specs/Files.antt has the bytes; the crate `schedules` says what they give to a reader.
 #![tactic(auto)]
 
 pub mod filling;
 
 ghost use Rattle.std.specs.Prelude.{◌≡◌};
 ghost use Rattle.verdict_file.specs.Files.{impossible};
-ghost use Rattle.verdict_file.specs.Answers.{written_of};
-ghost use Rattle.verdict_file.specs.Writing.{allowed_by, answer, output};
+ghost use Rattle.verdict_file.specs.Answers.{answer_of};
+ghost use Rattle.verdict_file.specs.Writing.{allowed_by, answer, output, said};
 
 use fields::Refusal;
+use filling::{Verdict, has_room};
 
 // At most 256 steps, so 1,544 bytes.
 pub const STEPS_MOST: usize = 256;
@@ -22,45 +23,37 @@ pub const TAG_STEP: u8 = 0x11;
 
 pub const TAG_END: u8 = 0x04;
 
-// The length of the file that was written, or why none was.
-#[derive(Clone, Copy)]
-pub enum Written {
-    Length(usize),
-    Refused(Refusal),
-}
-
 // Writes the file that says allowed, with these steps, each packed in a word: events before, location and
 // machine from the lowest byte up. Refusal 1 where the file has no room after the offset, then 13 where the words
 // are not a verdict file's steps: too many, over three bytes, a count of events before that falls or is above 128.
 // A refusal changes nothing.
-pub fn write_allowed(out: &mut [u8], offset: usize, steps: &[u64]) -> Written
-    ensures result_value { written_of result ≡ answer out.old offset (allowed_by steps.now) }
+pub fn write_allowed(out: &mut [u8], offset: usize, steps: &[u64]) -> Result<usize, Refusal>
+    ensures result_value { answer_of result ≡ answer out.old offset (allowed_by steps.now) }
     ensures out_after { out.new ≡
         output out.old offset (allowed_by steps.now) }
 {
-    if !filling::has_room(out.len(), offset) {
-        return Written::Refused(Refusal::BufferTooShort);
-    }
-    if !filling::are_steps(steps) {
-        return Written::Refused(Refusal::BadSchedule);
-    }
-    let part = &mut out[offset..];
-    Written::Length(filling::fill_allowed(part, steps))
+    write(out, offset, Verdict::Allowed(steps))
 }
 
 // Writes the file that says impossible, with the number of the first impossible event. Refusal 1 where the file has
 // no room after the offset, then 13 where the number is outside 1 to 128. A refusal changes nothing.
-pub fn write_impossible(out: &mut [u8], offset: usize, event: u8) -> Written
-    ensures result_value { written_of result ≡ answer out.old offset (impossible event) }
+pub fn write_impossible(out: &mut [u8], offset: usize, event: u8) -> Result<usize, Refusal>
+    ensures result_value { answer_of result ≡ answer out.old offset (impossible event) }
     ensures out_after { out.new ≡ output out.old offset (impossible event) }
 {
-    let size = out.len();
-    if !filling::has_room(size, offset) {
-        return Written::Refused(Refusal::BufferTooShort);
+    write(out, offset, Verdict::Impossible(event))
+}
+
+// Writes the file that says a verdict, where it has room and the verdict is of a file's form.
+fn write(out: &mut [u8], offset: usize, verdict: Verdict) -> Result<usize, Refusal>
+    ensures result_value { answer_of result ≡ answer out.old offset (said verdict.entry) }
+    ensures out_after { out.new ≡ output out.old offset (said verdict.entry) }
+{
+    if !has_room(out.len(), offset) {
+        return Err(Refusal::BufferTooShort);
     }
-    if !filling::is_event(event) {
-        return Written::Refused(Refusal::BadSchedule);
+    if !verdict.is_writable() {
+        return Err(Refusal::BadSchedule);
     }
-    let part = &mut out[offset..];
-    Written::Length(filling::fill_impossible(part, event))
+    Ok(verdict.fill(&mut out[offset..]))
 }

@@ -2,7 +2,7 @@
 // is possible and the events after it can be finished.
 //
 // Its callers see to it that the rows are there, that the events have a run from where the walk begins, and that they
-// are known, so that none comes to the arms of refused operations.
+// are known, so that none has a refused operation.
 #![tactic(auto)]
 
 ghost use Rattle.std.specs.Prelude.{◌+◌, ◌≤◌, ◌<◌, ◌≡◌, ◌≢◌, length};
@@ -23,7 +23,7 @@ use rows::{Row, codes, concerned, fine, row_before};
 use scratch::{Waypoint, get_copy, get_event, get_row};
 
 // What stands for a write-back where a step names its machine: no machine has the number 0.
-const WRITE_BACK: Machine = Machine(0);
+pub const WRITE_BACK: Machine = Machine(0);
 
 // The word of a step of the site after t events, by machine i.
 pub fn word(site: Site, t: usize, i: Machine) -> u64
@@ -34,15 +34,17 @@ pub fn word(site: Site, t: usize, i: Machine) -> u64
 }
 
 // Stores a word where the test holds, and hands back the place after it.
+#[tactic(auto, using(scratch::proofs::Stored::stored_none, scratch::proofs::Stored::stored_one))]
 fn put_if(w: &mut [u64], at: usize, yes: bool, word: u64) -> usize
     requires { at < length w.old }
     ensures { Stored w.old at (one_if yes word) w.new result }
 {
     if yes {
         w[at] = word;
-        return at + 1;
+        at + 1
+    } else {
+        at
     }
-    at
 }
 
 // The first machine in the set of code c.
@@ -50,18 +52,18 @@ fn first_holder(c: u8) -> Machine
     requires { (c < 64) × (c ≢ 0) }
     ensures { FirstHolder result.0 c }
 {
-    let bit = lowest(c as u64);
-    let n = bit + 1;
-    Machine(n)
+    Machine(lowest(c as u64) + 1)
 }
 
-// Machine i gives its copy up to the owner, between code c and code d.
+// Machine i gives its copy up to the owner, between code c and code d. The tests are joined by `&`, which does not
+// branch as `&&` does.
+#[tactic(auto, unfolding(crate::specs::Trails::gives_up))]
 fn gives_up(site: Site, c: u8, d: u8, i: Machine) -> bool
     requires c_bound { (c < 64) × (d < 64) }
     requires one_to_six { OneToSix i.0 }
     ensures { result ≡ gives_up site.owner.0 c d i.0 }
 {
-    (i.0 != site.owner.0) & (holds(c, i) & !holds(d, i))
+    (i != site.owner) & (holds(c, i) & !holds(d, i))
 }
 
 // The moves of the machines that give up their copies between code c and code d, in rising order.
@@ -71,7 +73,7 @@ fn move_to(w: &mut [u64], at: usize, site: Site, t: usize, c: u8, d: u8) -> usiz
     ensures { Noted site t (leaving site.owner.0 c d 6) w.old at w.new result }
 {
     let mut to = at;
-    for n in 1..7u8 {
+    for n in 1..=6 {
         let i = Machine(n);
         to = put_if(w, to, gives_up(site, c, d, i), word(site, t, i));
     }
@@ -90,11 +92,11 @@ fn write_back(w: &mut [u64], site: Site, t: usize, u: u32, p: Waypoint) -> Waypo
     let first = first_holder(c);
     let owned = holds(c, site.owner);
     let to = put_if(w, p.end, !owned, word(site, t, first));
-    let end = put_if(w, to, true, word(site, t, WRITE_BACK));
+    w[to] = word(site, t, WRITE_BACK);
     Waypoint {
         code: 0,
         memory: u,
-        end: end,
+        end: to + 1,
     }
 }
 
@@ -118,11 +120,7 @@ fn gap(w: &mut [u64], site: Site, t: usize, u: u32, row: Row, p: Waypoint) -> Wa
     if there != 0 {
         let d = lowest(there);
         let end = move_to(w, p.end, site, t, p.code, d);
-        return Waypoint {
-            code: d,
-            memory: p.memory,
-            end: end,
-        };
+        return Waypoint { code: d, end, ..p };
     }
     write_back(w, site, t, u, p)
 }
@@ -147,12 +145,12 @@ pub fn turn(w: &mut [u64], site: Site, t: usize, p: Waypoint) -> Waypoint
     requires { Standing site t p w.old }
     ensures { Turned site t p w.old result w.new }
 {
-    let e = get_event(&*w, t);
+    let e = get_event(w, t);
     if concerned(site, e) {
-        let u = get_copy(&*w, t);
-        let rest = get_row(&*w, t + 1);
+        let u = get_copy(w, t);
+        let rest = get_row(w, t + 1);
         // The event is read again for the table, which is quicker than handing on e.
-        let row = row_before(site, get_event(&*w, t), u, rest);
+        let row = row_before(site, get_event(w, t), u, rest);
         let q = gap(w, site, t, u, row, p);
         let made = act_at(site, e, u, q);
         let after = made.entry;

@@ -20,7 +20,7 @@ use Rattle.scratch.specs.Layout.{EVENTS, ROWS, STEPS, MOST, MOST-STEPS, OnlyIn, 
 use Rattle.scratch.specs.Words.{events_in, count_of, words_at}
 use Rattle.scratch.proofs.Frames.{only_then, only_wider, get_or_below}
 use Rattle.scratch.proofs.Events.{events_length}
-use Rattle.search.specs.declared.explaining.Found.{Found}
+use Rattle.search.specs.declared.explaining.Found.TheVariants.{All}
 use Rattle.search.specs.Paths.{Kept, Explainable}
 use Rattle.search.specs.Shortening.{Scheduled, Shortened}
 use Rattle.events.specs.Thinning.{retimed}
@@ -86,13 +86,10 @@ counts_each P (v ∷ ws) h (suc j) l = counts_each P ws (λ p i. h p (Memᴰ.tai
 
 -- ---- the schedule, and the indices
 
-module _ {s : Site} {k count : ℕ} {found : Found} {w w₁ : List ℕ} (can : Explainable s k count w)
-    (done : Shortened s k count w found w₁) (all : found.events ≡ k) where
-  abbrev more : ℕ
-  more = found.steps
-
+module _ {s : Site} {k count more : ℕ} {w w₁ : List ℕ} (can : Explainable s k count w)
+    (done : Shortened s k count w (All more) w₁) where
   new : Scheduled s k count w more w₁
-  new = done.steps all
+  new = done.steps
 
   abbrev words : List ℕ
   words = new.words

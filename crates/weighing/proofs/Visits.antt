@@ -2,7 +2,7 @@
 use Prim.Native.Nat.{ℕ, suc, ◌+◌, ◌*◌, ◌/◌, ◌%◌, ◌≤◌, ◌<◌}
 use native.Mathlib.Nat.{le_refl, le_of_suc-le-suc, eq-or-lt_of_le}
 use native.Mathlib.Omega.{arith}
-use mathlib.Core.Path.{◌≡◌, sym, ap, ◌∙◌, subst}
+use mathlib.Core.Path.{◌≡◌, sym, ap, ◌∙◌, subst, refl}
 use mathlib.Core.Logic.{⊎_elim}
 use mathlib.Core.List.{List, [], ◌++◌, map, map-append, append-nil}
 use lib.Dec.{T}
@@ -27,7 +27,8 @@ use Rattle.scratch.proofs.Frames.{only_then, only_wider, get_or_below}
 use Rattle.scratch.proofs.Segments.{words_after}
 use Rattle.scratch.proofs.Events.{events_take, events_length}
 use Rattle.search.specs.declared.explaining.Found.{Found}
-use Rattle.search.specs.Paths.{Explainable}
+use Rattle.search.specs.declared.explaining.Found.TheVariants.{All}
+use Rattle.search.specs.Paths.{Explainable, events_of}
 use Rattle.search.specs.Shortening.{Shortenable, Shortened}
 use Rattle.search.proofs.Prefixes.{has_run_at_prefix}
 use Rattle.events.specs.Thinning.{Thinned, retimed}
@@ -176,7 +177,7 @@ module _ {t : topology.Topology} {n x : ℕ} {p : Progress} {w : List ℕ} (can 
     module _ {s : Site} (here : s.location.0 ≡ x) (d : Describes sys s) {found : Found} {w₂ : List ℕ}
         (done : Shortened s k p.steps w₁ found w₂) where
       abbrev good : ℕ
-      good = found.events
+      good = events_of k found
 
       frame : OnlyIn ROWS LOG w₁ w₂
       frame = kept_only done.kept
@@ -246,53 +247,51 @@ module _ {t : topology.Topology} {n x : ℕ} {p : Progress} {w : List ℕ} (can 
               };
             }
 
-        -- All events have a run so far: the schedule gets its places in the log.
-        module _ (all : n ≤ m) where
-          everything : m ≡ length es
-          everything = omega (arith, can.tried.most, size)
+    -- All events have a run so far: the schedule gets its places in the log.
+    module _ {s : Site} (here : s.location.0 ≡ x) (d : Describes sys s) {more : ℕ} {w₂ : List ℕ}
+        (done : Shortened s k p.steps w₁ (All more) w₂) (all : n ≤ m) where
+      everything : m ≡ length es
+      everything = omega (arith, can.tried.most, size)
 
-          pub visit_retimable : Retimable k p.steps found.steps w₂
-          visit_retimable = found_retimable (explainable here d) done good_all visit_indices
+      pub visit_retimable : Retimable k p.steps more w₂
+      visit_retimable = found_retimable (explainable here d) done (visit_indices here d done)
 
-          module _ {w₃ : List ℕ} (timed : Retimed k p.steps found.steps w₂ w₃) where
-            abbrev more : ℕ
-            more = found.steps
+      module _ {w₃ : List ℕ} (timed : Retimed k p.steps more w₂ w₃) where
+        new : Extended s k p.steps w₁ more w₃
+        new = found_extended (explainable here d) done timed
 
-            new : Extended s k p.steps w₁ more w₃
-            new = found_extended (explainable here d) done good_all timed
+        abbrev before : List ℕ
+        before = words_at STEPS p.steps w
 
-            abbrev before : List ℕ
-            before = words_at STEPS p.steps w
+        words : words_at STEPS more w₃ ≡ before ++ new.words
+        words = new.list ∙ ap (λ (l : List ℕ). l ++ new.words) list_same
 
-            words : words_at STEPS more w₃ ≡ before ++ new.words
-            words = new.list ∙ ap (λ (l : List ℕ). l ++ new.words) list_same
+        counted : length (words_at STEPS more w₃) ≡ more
+        counted =
+            let old = (can.tried.steps everything).0 in
+            rw words (omega (arith, length-append before new.words, old, new.counted))
 
-            counted : length (words_at STEPS more w₃) ≡ more
-            counted =
-                let old = (can.tried.steps everything).0 in
-                rw words (omega (arith, length-append before new.words, old, new.counted))
+        gathered : Gathered sys es (suc x) (steps_at STEPS more w₃)
+        gathered =
+            let old = (can.tried.steps everything).1 in
+            let added = retimed (indices_in w₁ k) new.steps in
+            let steps : steps_at STEPS more w₃ ≡ steps_at STEPS p.steps w ++ added =
+            ap (map step_of_word) words ∙ map-append step_of_word before new.words
+            ∙ ap (◌++◌ (steps_at STEPS p.steps w)) new.timed in
+            let at_x : ShortestAt sys x (events_in w₁ k) new.steps =
+            subst (λ (y : Location). ShortestAt sys y (events_in w₁ k) new.steps) here (new.shortest sys d) in
+            rw steps (gathered_here everything old at_x)
 
-            gathered : Gathered sys es (suc x) (steps_at STEPS more w₃)
-            gathered =
-                let old = (can.tried.steps everything).1 in
-                let added = retimed (indices_in w₁ k) new.steps in
-                let steps : steps_at STEPS more w₃ ≡ steps_at STEPS p.steps w ++ added =
-                ap (map step_of_word) words ∙ map-append step_of_word before new.words
-                ∙ ap (◌++◌ (steps_at STEPS p.steps w)) new.timed in
-                let at_x : ShortestAt sys x (events_in w₁ k) new.steps =
-                subst (λ (y : Location). ShortestAt sys y (events_in w₁ k) new.steps) here (new.shortest sys d) in
-                rw steps (gathered_here everything old at_x)
-
-            pub visit_extends : Visited t n (suc x) w (record { events = m; steps = more }) w₃
-            visit_extends =
-                let long = length-map (words_at STEPS more w₃) step_of_word in
-                record {
-                  frame = to_log (only_wider new.frame (omega arith) (omega arith));
-                  tried = record {
-                    most = can.tried.most;
-                    few = omega (arith, gathered_few sys es gathered, size, few, counted, long);
-                    runs = runs_more m (le_refl m) run_all;
-                    ends = can.tried.ends;
-                    steps = λ e. (counted, gathered);
-                  };
-                }
+        pub visit_extends : Visited t n (suc x) w (record { events = m; steps = more }) w₃
+        visit_extends =
+            let long = length-map (words_at STEPS more w₃) step_of_word in
+            record {
+              frame = to_log (only_wider new.frame (omega arith) (omega arith));
+              tried = record {
+                most = can.tried.most;
+                few = omega (arith, gathered_few sys es gathered, size, few, counted, long);
+                runs = runs_more m (le_refl m) (run_all here d done refl);
+                ends = can.tried.ends;
+                steps = λ e. (counted, gathered);
+              };
+            }

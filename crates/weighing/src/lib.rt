@@ -12,7 +12,7 @@ use sorting::order;
 use visiting::visit_all;
 
 // There is a run, and the shortest schedule stands from SORTED on, so many steps; or there is none, and the number of
-// the first impossible event, from 1.
+// the first impossible event, from 1. Neither is a failure.
 #[derive(Clone, Copy)]
 pub enum Weighed {
     Allowed(usize),

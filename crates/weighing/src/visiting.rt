@@ -10,6 +10,7 @@ use entries::Site;
 use events::picking::{index, pick_events};
 use events::retiming::retime;
 use model::{Location, Topology};
+use search::explaining::Found;
 use search::shortening::shorten;
 
 // How many of the events have a run at each location so far, and how many steps their shortest schedules have.
@@ -29,20 +30,17 @@ fn visit(w: &mut [u64], t: Topology, site: Site, all: usize, p: Progress) -> Pro
     if count == 0 {
         return p;
     }
-    let found = shorten(w, site, count, p.steps);
-    if found.events < count {
-        return Progress {
-            events: index(&*w, found.events),
-            steps: p.steps,
-        };
-    }
-    if p.events < all {
-        return p;
-    }
-    retime(w, count, p.steps, found.steps);
-    Progress {
-        events: p.events,
-        steps: found.steps,
+    match shorten(w, site, count, p.steps) {
+        Found::First(n) => {
+            let events = index(&*w, n);
+            Progress { events, ..p }
+        }
+        // Not all events of the log had a run before: no schedule is sought any more.
+        Found::All(_) if p.events < all => p,
+        Found::All(steps) => {
+            retime(w, count, p.steps, steps);
+            Progress { steps, ..p }
+        }
     }
 }
 
@@ -52,12 +50,9 @@ pub(crate) fn visit_all(w: &mut [u64], t: Topology, events: usize) -> Progress
     ensures { Visited t events t.locations w.old result w.new }
 {
     let mut p = Progress { events, steps: 0 };
-    let mut x: u8 = 0;
-    while x < t.locations {
-        let at = x as usize;
-        let h = t.homes[at];
+    for x in 0..t.locations {
+        let h = t.homes[x as usize];
         p = visit(w, t, Site::at(t, Location(x), h), events, p);
-        x += 1;
     }
     p
 }

@@ -1,28 +1,16 @@
 -- `judge` meets its contract.
-use mathlib.Core.Path.{◌≡◌, sym, ap, ◌∙◌}
-use mathlib.Core.Bool.{true}
-use borrow.Author.Tests.{not-true, not-false}
-use Rattle.log_bytes.specs.Records.{Records}
-use Rattle.log_bytes.specs.Reading.{accepted, read_log}
-use Rattle.log_bytes.specs.Answers.{head_of}
-use Rattle.reader.specs.Answers.{meaning_of}
+use mathlib.Core.Path.{◌≡◌, sym, ◌∙◌}
+use Rattle.std.proofs.Common.{Err, rules}
 use Rattle.reader.proofs.Heads.{accepted_head, refused_number}
 use Rattle.verdict_file.specs.Writing.{room}
-use Rattle.judge.specs.Judging.{areas_fit}
 use Rattle.judge.proofs.Deciding.{no_room, few_words, areas-fit, too_short, judged, log_refused}
 use Rattle.judge.proofs.judge.Goals as goal
-
-head_read : (h : goal.After-decide-arg-in-Accepted-1) → (r : Records) × (read_log h.args.log.now ≡ accepted r)
-    × (head_of r ≡ h.in-Accepted.head)
-head_read h =
-    accepted_head h.args.log.now h.in-Accepted.head (sym (ap meaning_of h.in-Accepted.is) ∙ h.read.ensures)
 
 pub returns-then-not-has_room : goal.returns-then-not-has_room
 unfolding room
 returns-then-not-has_room c =
     let a = c.args in
-    too_short _ _ _ _
-    (no_room a.log.now _ _ _ (sym c.has_room.ensures ∙ not-true _ c.if-not-has_room.true-raw))
+    too_short _ _ _ _ (no_room a.log.now _ _ _ (sym c.has_room.ensures ∙ c.if-not-has_room.true))
 
 pub returns-then-scratch-lt-WORDS : goal.returns-then-scratch-lt-WORDS
 returns-then-scratch-lt-WORDS c =
@@ -32,39 +20,28 @@ returns-then-scratch-lt-WORDS c =
 pub decide-requires : goal.decide-requires
 unfolding room
 decide-requires c =
-    let fit : let a = c.args in
-    areas_fit a.out.now a.offset a.scratch.now ≡ true =
     let a = c.args in
-    areas-fit a.log.now a.out.now a.offset a.scratch.now
-    (sym c.has_room.ensures ∙ not-false _ c.if-not-has_room.false-raw)
-    c.if-scratch-lt-WORDS.false in
+    let has_room = sym c.has_room.ensures ∙ c.if-not-has_room.false in
     record {
-      scratch_value = fit;
-      log_value = head_read c;
+      scratch_value = areas-fit a.log.now _ _ _ has_room c.if-scratch-lt-WORDS.false;
+      log_value = accepted_head a.log.now c.in_ok-head.head c.in_ok-head.ensures;
     }
 
-pub returns-in-Accepted : goal.returns-in-Accepted
+pub returns-in_err-head : goal.returns-in_err-head
 unfolding room
-returns-in-Accepted c =
-    let fit : let a = c.args in
-    areas_fit a.out.now a.offset a.scratch.now ≡ true =
+returns-in_err-head c =
     let a = c.args in
-    areas-fit a.log.now a.out.now a.offset a.scratch.now
-    (sym c.has_room.ensures ∙ not-false _ c.if-not-has_room.false-raw)
-    c.if-scratch-lt-WORDS.false in
-    judged _ _ _ _ _ fit c.decide.ensures
+    let why = c.in_err-head.field-0.0 in
+    let same : c.from_residual.result ≡ Err why = search rules in
+    let has_room = sym c.has_room.ensures ∙ c.if-not-has_room.false in
+    let fit = areas-fit a.log.now a.out.now a.offset a.scratch.now has_room c.if-scratch-lt-WORDS.false in
+    rw same
+    (judged _ _ _ _ _ fit (log_refused a.log.now _ _ _ why (refused_number a.log.now why c.in_err-head.ensures)))
 
-pub returns-in-Refused : goal.returns-in-Refused
+pub returns : goal.returns
 unfolding room
-returns-in-Refused c =
-    let fit : let a = c.args in
-    areas_fit a.out.now a.offset a.scratch.now ≡ true =
+returns c =
     let a = c.args in
-    areas-fit a.log.now a.out.now a.offset a.scratch.now
-    (sym c.has_room.ensures ∙ not-false _ c.if-not-has_room.false-raw)
-    c.if-scratch-lt-WORDS.false in
-    let a = c.args in
-    let said = sym (ap meaning_of c.in-Refused.is) ∙ c.read.ensures in
-    let why = c.in-Refused.why in
-    let number = refused_number a.log.now why said in
-    judged _ _ _ _ _ fit (log_refused a.log.now _ _ _ why number)
+    let has_room = sym c.has_room.ensures ∙ c.if-not-has_room.false in
+    let fit = areas-fit a.log.now a.out.now a.offset a.scratch.now has_room c.if-scratch-lt-WORDS.false in
+    judged _ _ _ _ _ fit c.decide.ensures

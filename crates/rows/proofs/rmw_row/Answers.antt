@@ -1,17 +1,11 @@
 -- `rows::rmw_row` meets its contract: the store leads into the row after it from every memory value, from one, or from
 -- none.
 use mathlib.Core.Path.{◌≡◌, sym, ◌∙◌}
-use mathlib.Core.Logic.{inl, inr, ⊎_elim}
+use mathlib.Core.Logic.{inr, ⊎_elim}
 use mathlib.Core.Bool.{true≢false}
 use Rattle.rows.specs.Rows.{Fine}
-use Rattle.rows.proofs.FineRows.{no_state, passed, in_place}
+use Rattle.rows.proofs.FineRows.{no_state, in_place}
 use Rattle.rows.proofs.rmw_row.Goals as goal
-
-pub returns-then-contains : goal.returns-then-contains
-returns-then-contains c =
-    let args = c.args in
-    passed _ (λ m. Fine args.rest args.t m) c.readable_row.result
-    (λ m. inl (c.contains.ensures.0 c.if-contains.true)) c.readable_row.ensures
 
 -- Where `any` has not the code, the store leads into the row from the row's own memory value alone.
 pub returns-then-contains-2 : goal.returns-then-contains-2

@@ -1,5 +1,6 @@
 -- `rows::row_before` meets its contract: each arm is a line of the table.
 use native.Mathlib.Omega.{arith}
+use borrow.Author.Rules.{rules}
 use Rattle.model.specs.Cxl0.{crashes}
 use Rattle.model.specs.OneLocation.{enabled_at, effect}
 use Rattle.model.specs.Operations.{event_of}
@@ -74,7 +75,7 @@ returns-in-6 c = rw c.in-6.is (λ d m h. line_none d (c.r_flush_row.ensures d m 
 pub returns-in-7 : goal.returns-in-7
 unfolding event_of enabled_at effect crashes
 returns-in-7 c =
-    rw c.in-7.is (λ d m h. line_any (c.crash_row.ensures d m h))
+    rw (c.in-7.is, ← c.eq.ensures) (λ d m h. line_any (c.crash_row.ensures d m h))
 
 pub returns-in-8 : goal.returns-in-8
 unfolding event_of enabled_at effect
@@ -104,4 +105,4 @@ pub returns-in-0 : goal.returns-in-0
 returns-in-0 c = absurd (omega (arith, operation_range c.requires.known.operation))
 
 pub returns-in-12-to-255 : goal.returns-in-12-to-255
-returns-in-12-to-255 c = absurd (no_other c.requires.known.operation c.in-12-to-255.in-12-to-255-own.rest)
+returns-in-12-to-255 c = absurd (no_other c.requires.known.operation (search rules))

@@ -1,25 +1,18 @@
--- `rows::set_crash_row` meets its contract, where memory is cleared and where it is kept.
+-- `rows::set_crash_row` meets its contract: what the crash leaves of memory, and then of the copies.
 use native.Mathlib.Nat.{lt_of_le_of_lt}
 use mathlib.Core.Logic.Iff
+use borrow.Author.Rules.{rules}
 use Rattle.model.specs.Sharers.{remove_all}
 use Rattle.model.proofs.Sharers.{remove_all_le}
-use Rattle.rows.proofs.FineRows.{row_of, any_of}
+use Rattle.masks.specs.Sets.{In, Exactly}
+use Rattle.rows.proofs.FineRows.{row_to}
 use Rattle.rows.proofs.set_crash_row.Goals as goal
 
-pub returns-then-cleared : goal.returns-then-cleared
-returns-then-cleared c =
-    let set = c.args.set in
-    let lost = c.losing_all in
-    let codes = c.codes in
-    rw c.if-cleared.true
-    (any_of lost.result _ c.any_row.result
-    (λ d h. Iff.trans (lost.ensures d h) (codes.ensures (remove_all set d) (lt_of_le_of_lt (remove_all_le set d) h)))
-    c.any_row.ensures)
-
 pub returns : goal.returns
-returns c =
-    let rest = c.args.rest in
-    let any = c.losing_all-2 in
-    let one = c.losing_all-3 in
-    rw c.if-cleared.false
-    (row_of any.result one.result _ _ any.ensures one.ensures rest.value)
+returns c d m h =
+    let set = c.args.set in
+    let kept = c.cleared_row in
+    let any : Exactly c.map.result.any (λ t. In (remove_all set t) kept.result.any) = search rules in
+    let one : Exactly c.map.result.one (λ t. In (remove_all set t) kept.result.one) = search rules in
+    Iff.trans (kept.ensures (remove_all set d) m (lt_of_le_of_lt (remove_all_le set d) h))
+    (row_to kept.result c.map.result c.map.ensures.value (remove_all set) any one d m h)

@@ -7,11 +7,13 @@ use Rattle.schedules.specs.Schedules.{read_schedule, counted}
 use Rattle.schedules.proofs.Remaining.{remaining}
 use Rattle.schedules.proofs.read_schedule.Given as goal
 
-abbrev pub invariant-loop-steps : goal.invariant-loop-steps
-invariant-loop-steps l =
-    (l.at ≤ length l.file) × (l.steps ≤ 257)
-    × (counted (read_schedule (topology_of l.t) l.events l.file)
-    ≡ remaining (topology_of l.t) l.events l.file l.at l.least l.steps)
+abbrev pub invariant-loop-step : goal.invariant-loop-step
+invariant-loop-step l = record {
+  within : l.at ≤ length l.file;
+  few : l.steps ≤ 256;
+  rest : counted (read_schedule (topology_of l.t) l.events l.file)
+      ≡ remaining (topology_of l.t) l.events l.file l.at l.least l.steps;
+}
 
-abbrev pub decreases-loop-steps : goal.decreases-loop-steps
-decreases-loop-steps l = 257 - l.steps
+abbrev pub decreases-loop-step : goal.decreases-loop-step
+decreases-loop-step l = 256 - l.steps

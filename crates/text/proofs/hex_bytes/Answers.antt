@@ -1,9 +1,6 @@
 -- `hex_bytes` puts `hex_pairs` at the start of the output: what is left to put is what the pairs ahead say.
-use Prim.Native.Nat.{ℕ, ◌+◌, ◌≤◌}
-use native.Mathlib.Omega.{arith}
-use mathlib.Core.Path.{◌≡◌, refl}
-use mathlib.Core.List.{◌∷◌}
-use lib.ListN.{length, drop, length-set, length-drop}
+use Rattle.std.proofs.Common.{◌≡◌, ℕ, ◌+◌, ◌*◌, ◌≤◌, List, ◌∷◌, Some, slice_get, length, drop, refl}
+use Rattle.std.proofs.Common.{length-drop, arith, rules}
 use lib.Seq.{drop-drop}
 use Rattle.text.specs.declared.Parsed.{Parsed}
 use Rattle.text.specs.Putting.{put}
@@ -12,58 +9,44 @@ use Rattle.text.proofs.Puts.{Put, left_one, left_none, left_full}
 use Rattle.text.proofs.Pairs.{no_byte, first_byte}
 use Rattle.text.proofs.hex_bytes.Goals as goal
 
-pub loop-count-init : goal.loop-count-init
-loop-count-init c = (omega arith, refl, omega arith, (refl, refl))
+pub loop-place-init : goal.loop-place-init
+loop-place-init c = record { count = refl; from = omega arith; left = (refl, refl) }
 
 -- A byte that was given is the first of them, and more than its digits are there.
-first : (c : goal.Else-byte-ge-NO_BYTE) →
-    (c.loop-count.from + 2 ≤ length c.args.text.now)
-    × ((hex_pairs (drop c.loop-count.from c.args.text.now))
-    ≡ c.hex_pair-byte.result ∷ hex_pairs (drop (c.loop-count.from + 2) c.args.text.now))
-first c =
-    let gave = c.hex_pair-byte.ensures in
-    let (two, split) = first_byte (drop c.loop-count.from c.args.text.now) (rw gave at c.if-byte-ge-NO_BYTE.false) in
-    (omega (arith, length-drop c.loop-count.from c.args.text.now), rw (gave, ← drop-drop) split)
+first : (text : List ℕ) (at byte : ℕ) → slice_get (hex_pairs (drop at text)) 0 ≡ Some byte
+    → (at + 2 ≤ length text) × (hex_pairs (drop at text) ≡ byte ∷ hex_pairs (drop (at + 2) text))
+first text at byte gave =
+    let (two, split) = first_byte (drop at text) byte gave in
+    (omega (arith, length-drop at text), rw (← drop-drop) split)
 
-pub returns-then-byte-ge-NO_BYTE : goal.returns-then-byte-ge-NO_BYTE
-unfolding bytes_read
-returns-then-byte-ge-NO_BYTE c =
-    let stop : let at : ℕ = c.args.at in
-    Put c.args.out.now 0 (hex_pairs (drop at c.args.text.now)) c.loop-count.count c.loop-count.out
-    → ◌≡◌ {A = Parsed} (record { at = c.loop-count.from; value = c.loop-count.count })
-    (bytes_read c.args.text.now at c.args.out.now)
-    × (c.loop-count.out ≡ put c.args.out.now 0 (hex_pairs (drop at c.args.text.now))) =
-    λ p0. let (count, bytes) = p0 in (rw (← count, c.loop-count.invariant.2), bytes) in
-    let none = no_byte _ (rw c.hex_pair-byte.ensures at c.if-byte-ge-NO_BYTE.true) in
-    let r = stop (left_none _ _ _ _ _ (rw none at c.loop-count.invariant.3)) in
-    record {
-      value = r.0;
-      out_after = r.1;
-    }
+pub overflow_add-read : goal.overflow_add-read
+overflow_add-read c = omega (arith, (first c.args.text.now c.loop-place.read.at c.in-Some.byte (cc)).0)
 
-pub overflow_add-from : goal.overflow_add-from
-overflow_add-from c = omega (arith, (first c).0)
+pub loop-place-preserved : goal.loop-place-preserved
+loop-place-preserved c =
+    let ahead = first c.args.text.now c.loop-place.read.at c.in-Some.byte (cc) in
+    let one = left_one _ _ _ _ _ _ _ (omega arith) (rw ahead.1 at c.loop-place.invariant.left) in
+    record { count = refl; from = omega arith; left = one }
 
-pub loop-count-smaller : goal.loop-count-smaller
-loop-count-smaller c = rw length-set (omega arith)
+-- What was put so far is all of it, if nothing more is to be put or fits.
+module _ (text : List ℕ) (at : ℕ) (out left : List ℕ) (read : Parsed) where
+  whole : read.at ≡ at + 2 * read.value → Put out 0 (hex_pairs (drop at text)) read.value left
+      → (read ≡ bytes_read text at out) × (left ≡ put out 0 (hex_pairs (drop at text)))
+  unfolding bytes_read
+  whole from (count, bytes) = (rw (← count, ← from), bytes)
 
-pub loop-count-preserved : goal.loop-count-preserved
-loop-count-preserved c =
-    let one = left_one _ _ _ _ _ _ _ c.loop-count-test.true (rw (first c).1 at c.loop-count.invariant.3) in
-    (rw length-set (omega arith), rw length-set (omega arith), omega arith, one)
+pub returns-in_default : goal.returns-in_default
+returns-in_default c =
+    let none = no_byte (hex_pairs (drop c.loop-place.read.at c.args.text.now)) (search rules) in
+    let left = left_none _ _ _ _ _ (rw none at c.loop-place.invariant.left) in
+    let put = rw (← c.loop-place.invariant.count) at left in
+    let all = whole c.args.text.now c.args.at c.args.out.now c.loop-place.out c.loop-place.read (omega arith) put in
+    record { value = all.0; out_after = all.1 }
 
-pub returns : goal.returns
-unfolding bytes_read
-returns c =
-    let stop : let at : ℕ = c.args.at in
-    Put c.args.out.now 0 (hex_pairs (drop at c.args.text.now)) c.loop-count.count c.loop-count.out
-    → ◌≡◌ {A = Parsed} (record { at = c.loop-count.from; value = c.loop-count.count })
-    (bytes_read c.args.text.now at c.args.out.now)
-    × (c.loop-count.out ≡ put c.args.out.now 0 (hex_pairs (drop at c.args.text.now))) =
-    λ p0. let (count, bytes) = p0 in (rw (← count, c.loop-count.invariant.2), bytes) in
-    let r = stop (left_full _ _ _ _ _
-    (hex_pairs (drop c.loop-count.from c.args.text.now)) c.loop-count-test.false c.loop-count.invariant.3) in
-    record {
-      value = r.0;
-      out_after = r.1;
-    }
+pub returns-after-loop-place : goal.returns-after-loop-place
+returns-after-loop-place c =
+    let ahead = hex_pairs (drop c.loop-place.read.at c.args.text.now) in
+    let left = left_full _ _ _ _ _ ahead (omega arith) c.loop-place.invariant.left in
+    let put = rw (← c.loop-place.invariant.count) at left in
+    let all = whole c.args.text.now c.args.at c.args.out.now c.loop-place.out c.loop-place.read (omega arith) put in
+    record { value = all.0; out_after = all.1 }

@@ -3,8 +3,8 @@ use native.Mathlib.Omega.{arith}
 use Rattle.walking.proofs.Holders.{least_low, least_first}
 use Rattle.walking.proofs.first_holder.Goals as goal
 
-pub overflow_add-n : goal.overflow_add-n
-overflow_add-n c = omega (arith, least_low c.lowest-bit.result c.args.c (omega arith) c.lowest-bit.ensures)
+pub overflow_add-result : goal.overflow_add-result
+overflow_add-result c = omega (arith, least_low c.lowest.result c.args.c (omega arith) c.lowest.ensures)
 
 pub returns : goal.returns
-returns c = least_first c.lowest-bit.result c.args.c c.lowest-bit.ensures
+returns c = least_first c.lowest.result c.args.c c.lowest.ensures

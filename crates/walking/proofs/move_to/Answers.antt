@@ -11,7 +11,7 @@ use Rattle.walking.proofs.move_to.Goals as goal
 
 pub loop-n-init : goal.loop-n-init
 unfolding leaving
-loop-n-init c = (0, refl, omega arith, stored_none _ _)
+loop-n-init c = (0, refl, stored_none _ _)
 
 -- The area keeps its length, and at most n - 1 words are stored.
 room : (h : goal.After-word) → let a : _ = h.args in
@@ -21,7 +21,7 @@ room h =
     let inv = h.loop-n.invariant in
     let k = a.site.owner.0 in
     let words = length-map (leaving k a.c a.d inv.0) (word_of a.t a.site.location.0) in
-    (stored_length inv.3, omega (arith, leaving_few k a.c a.d inv.0))
+    (stored_length inv.2, omega (arith, leaving_few k a.c a.d inv.0))
 
 pub put_if-to-requires : goal.put_if-to-requires
 put_if-to-requires c = omega (arith, room c)
@@ -37,12 +37,11 @@ loop-n-preserved c =
     let one = rw (c.gives_up.ensures, c.word.ensures, inv.1) at c.put_if-to.ensures in (
       i,
       omega arith,
-      omega arith,
-      stored_if f (leaving k a.c a.d inv.0) (gives_up k a.c a.d i) i inv.3 one,
+      stored_if f (leaving k a.c a.d inv.0) (gives_up k a.c a.d i) i inv.2 one,
     )
 
 pub returns : goal.returns
 returns c =
     let inv = c.loop-n.invariant in
     let all : inv.0 ≡ 6 = omega arith in
-    rw all at inv.3
+    rw all at inv.2

@@ -26,12 +26,12 @@ returns-then-b-k c =
     blocked_end c.requires c.split-b.ensures c.weigh_all.ensures
     (rw c.rest-steps.ensures at c.walk-end.ensures) c.if-b-k.true
 
-pub after_block-place-requires : goal.after_block-place-requires
-after_block-place-requires c =
+pub after_block-requires : goal.after_block-requires
+after_block-requires c =
     closable c.requires c.split-b.ensures c.weigh_all.ensures
     (rw c.rest-steps.ensures at c.walk-end.ensures) c.if-b-k.false
 
 pub returns : goal.returns
 returns c =
     blocked_known c.requires c.split-b.ensures c.weigh_all.ensures
-    (rw c.rest-steps.ensures at c.walk-end.ensures) c.if-b-k.false c.after_block-place.ensures
+    (rw c.rest-steps.ensures at c.walk-end.ensures) c.if-b-k.false c.after_block.ensures

@@ -4,6 +4,3 @@ use Rattle.blocks.proofs.blocks.weigh_all.Given as goal
 
 abbrev pub invariant-loop-l : goal.invariant-loop-l
 invariant-loop-l l = Pricing l.site l.b l.initial.w l.w l.l l.least
-
-abbrev pub decreases-loop-l : goal.decreases-loop-l
-decreases-loop-l l = l.l

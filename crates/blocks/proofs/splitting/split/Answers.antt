@@ -1,14 +1,28 @@
 -- `split` meets its contract: the loop cuts one event after another.
-use Rattle.std.proofs.Common.{refl}
+use Rattle.std.proofs.Common.{◌≡◌, ◌≢◌, Bool, true, false, refl, sym, ◌∙◌, rules}
+use mathlib.Core.Logic.{inl, inr}
+use denote.Enum.Bare.{sameb, same_true, same_false}
+use Rattle.blocks.specs.contracts.splitting.Kind.{the_type}
+use Rattle.blocks.specs.declared.splitting.Kind.{Kind}
 use Rattle.blocks.proofs.Splits.{split_end, known_event, again_inside, again_reset, again_store, split_known}
 use Rattle.blocks.proofs.splitting.split.Goals as goal
-use Rattle.blocks.proofs.splitting.split.Goals.{then-what-eq0+then-s-resets, then-what-eq0+else-s-resets}
-use Rattle.blocks.proofs.splitting.split.Goals.{else-what-eq0+else-what-ge3}
+use Rattle.blocks.proofs.splitting.split.Goals.{then-eq+then-s-eq-NONE+then-resets, then-eq+else-s-eq-NONE}
+use Rattle.blocks.proofs.splitting.split.Goals.{else-s-eq-NONE-via-then-s-eq-NONE+else-resets}
+use Rattle.blocks.proofs.splitting.split.Goals.{else-s-eq-NONE-via-else-s-eq-NONE}
+use Rattle.blocks.proofs.splitting.split.Goals.{else-eq+else-ends_block}
+
+-- ---- the test of a kind
+
+same : (a b : Kind) {r : Bool} → r ≡ sameb the_type a b → r ≡ true → a ≡ b
+same a b is test = same_true the_type (search rules) a b (sym is ∙ test)
+
+differs : (a b : Kind) {r : Bool} → r ≡ sameb the_type a b → r ≡ false → a ≢ b
+differs a b is test = same_false the_type a b (sym is ∙ test)
 
 -- ---- the event is known
 
-pub kind-what-requires : goal.kind-what-requires
-kind-what-requires c =
+pub of-what-requires : goal.of-what-requires
+of-what-requires c =
     known_event c.requires c.loop-t.invariant c.loop-t-test.true c.get_event-e.ensures refl
 
 pub resets-requires : goal.resets-requires
@@ -23,11 +37,12 @@ act_at-made-requires-clause-known c =
 
 -- ---- the segment is put
 
-pub returns-then-what-ge3 : goal.returns-then-what-ge3
-returns-then-what-ge3 c =
-    split_known c.requires c.loop-t.invariant c.loop-t-test.true
-    c.get_event-e.ensures c.kind-what.ensures c.if-what-eq0.false
-    (rw c.closing.ensures at c.put_segment.ensures) c.if-what-ge3.true
+pub returns-then-ends_block : goal.returns-then-ends_block
+returns-then-ends_block c =
+    rw c.forced.ensures
+    (split_known c.requires c.loop-t.invariant c.loop-t-test.true
+    c.get_event-e.ensures c.of-what.ensures (differs _ _ c.eq.ensures c.if-eq.false)
+    (rw c.closing-s.ensures at c.put_segment.ensures) (rw c.ends_block.ensures at c.if-ends_block.true))
 
 -- ---- the next turn
 
@@ -37,18 +52,24 @@ loop-t-preserved c =
     let at = c.loop-t.invariant in
     let more = c.loop-t-test.true in
     let read = c.get_event-e.ensures in
-    let what = c.kind-what.ensures in
-    elim c.if-what-eq0.branch [
-      | then-what-eq0+then-s-resets w ↦
+    let what = c.of-what.ensures in
+    elim c.if-eq.branch [
+      | then-eq+then-s-eq-NONE+then-resets w ↦
           rw (w.w-is, w.l-is, w.s-is)
-          (again_reset start at more read what w.if-what-eq0.true (rw w.resets.ensures at w.if-s-resets.true))
-      | then-what-eq0+else-s-resets w ↦
+          (again_reset start at more read what (same _ _ c.eq.ensures w.if-eq.true) w.if-s-eq-NONE.true
+          (rw w.resets.ensures at w.if-resets.true))
+      | then-eq+else-s-eq-NONE w ↦
           rw (w.w-is, w.l-is, w.s-is)
-          (again_inside start at more read what w.if-what-eq0.true (rw w.resets.ensures at w.if-s-resets.false))
-      | else-what-eq0+else-what-ge3 w ↦
+          (again_inside start at more read what (same _ _ c.eq.ensures w.if-eq.true)
+          (elim w.else-s-eq-NONE.branch [
+            | else-s-eq-NONE-via-then-s-eq-NONE+else-resets v ↦ inr (rw v.resets.ensures at v.if-resets.false)
+            | else-s-eq-NONE-via-else-s-eq-NONE v ↦ inl v.if-s-eq-NONE.false
+          ]))
+      | else-eq+else-ends_block w ↦
           rw (w.w-is, w.l-is, w.s-is)
-          (again_store start at more read what w.if-what-eq0.false
-          (rw w.closing.ensures at w.put_segment.ensures) w.if-what-ge3.false w.act_at-made.ensures)
+          (again_store start at more read what (differs _ _ c.eq.ensures w.if-eq.false)
+          (rw w.closing-s.ensures at w.put_segment.ensures) (rw w.ends_block.ensures at w.if-ends_block.false)
+          w.act_at-made.ensures)
     ]
 
 -- ---- the events are at their end

@@ -1,5 +1,5 @@
 -- The loop's invariant: no move of a machine below n leads into the set.
-use Rattle.std.proofs.Common.{ℕ, ◌-◌, ◌≤◌, ◌<◌, Bool, not, ◌&&◌, T, eqb}
+use Rattle.std.proofs.Common.{ℕ, ◌≤◌, ◌<◌, Bool, not, ◌&&◌, T, eqb}
 use Rattle.model.specs.Cxl0.{Machine}
 use Rattle.model.specs.Sharers.{has}
 use Rattle.model.specs.OneLocation.{moved}
@@ -17,6 +17,3 @@ NoneBelow k c into n = (j : Machine) → j < n → T (movable k c j) → ¬ In (
 
 abbrev pub invariant-loop-n : goal.invariant-loop-n
 invariant-loop-n l = (1 ≤ l.n) × (l.n ≤ STAY) × NoneBelow l.owner.0 l.c l.into l.n
-
-abbrev pub decreases-loop-n : goal.decreases-loop-n
-decreases-loop-n l = STAY - l.n

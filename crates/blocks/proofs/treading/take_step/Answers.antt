@@ -1,16 +1,22 @@
 -- `take_step` meets its contract.
-use Rattle.std.proofs.Common.{◌+◌, ◌∙◌, arith}
+use Rattle.std.proofs.Common.{◌≡◌, ℕ, ◌+◌, [], ◌∷◌, ap, ◌∙◌, arith}
 use native.Mathlib.Nat.{le_refl}
 use Rattle.scratch.specs.Layout.{BACKS}
 use Rattle.scratch.proofs.Frames.{only_set, only_then, only_wider}
 use Rattle.scratch.proofs.Stored.{stored_one, stored_words}
 use Rattle.scratch.proofs.Segments.{words_kept}
+use Rattle.walking.specs.Trails.{word_of}
+use Rattle.blocks.specs.Treading.{number_of}
 use Rattle.blocks.proofs.Keeping.{tasked_same, ready_same}
 use Rattle.blocks.proofs.treading.take_step.Goals as goal
 
+-- The word of a step names its number.
+names : (t x : ℕ) {i n v : ℕ} → v ≡ word_of t x i → i ≡ n → v ∷ [] ≡ word_of t x n ∷ []
+names t x word number = ap (λ (v : ℕ). v ∷ []) (word ∙ ap (word_of t x) number)
+
 -- The step is noted, and nothing else has changed.
-pub returns-then-i-eq0 : goal.returns-then-i-eq0
-returns-then-i-eq0 c =
+pub returns-in_default : goal.returns-in_default
+returns-in_default c =
     let a = c.args in
     let only = only_set a.p.end BACKS a.w.now a.p.end c.word.result (le_refl _) (omega (arith, c.requires.space)) in
     let noted =
@@ -19,9 +25,9 @@ returns-then-i-eq0 c =
     in
     record {
       frame = only;
-      word = rw (← c.word.ensures) noted;
+      word = noted ∙ names a.t a.site.location.0 c.word.ensures c.machine.ensures;
       stepped = c.stepped-at.ensures;
-      levels = λ some. absurd (omega arith);
+      levels = λ some. absurd (omega (arith, ap number_of c.in_default.is));
     }
 
 pub build-requires : goal.build-requires
@@ -33,8 +39,8 @@ build-requires c =
     (ready, omega (arith, c.stepped-at.ensures.steps, c.requires.finite))
 
 -- Only masks have changed after the step was noted.
-pub returns : goal.returns
-returns c =
+pub returns-in-Move : goal.returns-in-Move
+returns-in-Move c =
     let a = c.args in
     let only = only_set a.p.end BACKS a.w.now a.p.end c.word.result (le_refl _) (omega (arith, c.requires.space)) in
     let noted =
@@ -47,7 +53,8 @@ returns c =
     in
     record {
       frame = only_then only (only_wider built (omega arith) (le_refl BACKS));
-      word = words_kept built a.p.end 1 (le_refl _) ∙ rw (← c.word.ensures) noted;
+      word = words_kept built a.p.end 1 (le_refl _) ∙ noted
+          ∙ names a.t a.site.location.0 c.word.ensures c.machine.ensures;
       stepped = c.stepped-at.ensures;
       levels =
           λ some less z s.

@@ -1,9 +1,8 @@
 -- `tread` meets its contract.
-use Rattle.std.proofs.Common.{◌≡◌, ℕ, ◌≤◌, List, sym, ap, ◌∙◌, add-one}
+use Rattle.std.proofs.Common.{◌≡◌, ℕ, ◌≤◌, List, sym, ap, ◌∙◌, add-one, arith}
 use native.Mathlib.Nat.{le_antisymm}
 use Rattle.model.specs.Cxl0.{Value}
 use Rattle.entries.specs.declared.Site.{Site}
-use Rattle.scratch.proofs.Events.{meant_read}
 use Rattle.levels.specs.declared.Task.{Task}
 use Rattle.levels.specs.Tasks.{Built}
 use Rattle.segments.specs.Words.{segment_in}
@@ -12,7 +11,6 @@ use Rattle.segments.specs.declared.words.Segment.{Segment}
 use Rattle.blocks.specs.declared.treading.Stand.{Stand}
 use Rattle.blocks.specs.Treading.{Treadable}
 use Rattle.blocks.proofs.Stepping.{Underway, kept_under}
-use Rattle.blocks.proofs.Passing.{acts_same}
 use Rattle.blocks.proofs.Treads.{underway_paid, still_paid, underway_event}
 use Rattle.blocks.proofs.Treads.{built_kept, tread_starts, tread_ends}
 use Rattle.blocks.proofs.treading.tread.Goals as goal
@@ -46,21 +44,26 @@ pay-paid-requires c =
     let segment = segment_under c.requires.0 c.requires.1 c.build.ensures under in
     (under.payable, under.standing, ap (λ (s : Segment). s.copy) segment)
 
-pub act_at-made-requires-clause-known : goal.act_at-made-requires-clause-known
-act_at-made-requires-clause-known c =
+pub over_event-at-requires : goal.over_event-at-requires
+over_event-at-requires c =
     let paid = underway_paid c.requires.0.low c.loop-t.invariant c.pay-paid.ensures in
     let segment = segment_under c.requires.0 c.requires.1 c.build.ensures paid in
     let inside = rw segment at c.loop-t-test.true in
-    rw c.get_event.ensures (paid.payable.segment.known _ paid.standing.from inside)
+    record {
+      room = paid.payable.room;
+      owner = paid.payable.owner;
+      inside = omega (arith, inside, paid.payable.segment.inside, paid.payable.short);
+      known = paid.payable.segment.known _ paid.standing.from inside;
+      fits = paid.standing.fits;
+    }
 
 pub loop-t-preserved : goal.loop-t-preserved
 loop-t-preserved c =
     let segment = segment_built c.requires.0 c.requires.1 c.build.ensures in
     let inside = rw segment at c.loop-t-test.true in
-    let event = meant_read c.pay-paid.new.w c.loop-t.t c.get_event.result c.get_event.ensures in
-    let made = acts_same event (ap (λ (s : Segment). s.copy) segment) c.act_at-made.ensures in
     rw (add-one c.loop-t.t)
-    (underway_event c.requires.0.low c.loop-t.invariant c.pay-paid.ensures inside made)
+    (underway_event c.requires.0.low c.loop-t.invariant c.pay-paid.ensures inside
+    (rw segment at c.over_event-at.ensures))
 
 -- ---- the last gap
 

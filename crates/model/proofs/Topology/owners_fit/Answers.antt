@@ -1,25 +1,24 @@
--- `owners_fit` meets its contract. The loop's invariant: the owners fit if those from `at` on fit.
-use mathlib.Core.Path.{◌≡◌, sym, ◌∙◌}
-use lib.ListN.{length}
-use Rattle.model.proofs.Limits.{mapped, fit_end, fit_more}
+-- `owners_fit` meets its contract: `all` tests each listed home as the definition does.
+use mathlib.Core.Path.{sym, ◌∙◌}
+use mathlib.Core.Bool.{Bool, ◌&&◌}
+use lib.Dec.{leb}
+use lib.ListN.{take}
+use borrow.Author.Rules.{rules}
+use borrow.Author.Tests.{tests}
+use Rattle.std.proofs.lemmas.Iterator.{YieldsList-from_slice}
+use Rattle.std.proofs.lemmas.Iterator.Search.{all_from_yields_List}
+use Rattle.model.specs.Cxl0.{is_machine}
+use Rattle.model.specs.Meaning.{topology_of}
+use Rattle.model.specs.declared.Home as home
+use Rattle.model.proofs.Limits.{fit_all}
 use Rattle.model.proofs.Topology.owners_fit.Goals as goal
 
--- One location more: its owner is a machine, or is not.
-pub returns-then-not-is_machine : goal.returns-then-not-is_machine
-returns-then-not-is_machine c =
-    let room : length c.args.self.homes ≡ 32 = search mapped in
-    let turn = fit_more c.args.self room c.requires c.loop-at.at c.loop-at-test.true _
-    (sym c.if-not-is_machine.ensures) in
-    sym (c.loop-at.invariant ∙ turn)
-
-pub loop-at-preserved : goal.loop-at-preserved
-loop-at-preserved c =
-    let room : length c.args.self.homes ≡ 32 = search mapped in
-    c.loop-at.invariant
-    ∙ fit_more c.args.self room c.requires c.loop-at.at c.loop-at-test.true _ (sym c.if-not-is_machine.ensures)
-
 pub returns : goal.returns
+unfolding is_machine topology_of
 returns c =
-    let room : length c.args.self.homes ≡ 32 = search mapped in
-    let l = c.loop-at in
-    sym (l.invariant ∙ fit_end c.args.self room c.requires l.at c.loop-at-test.false)
+    let t = c.args.self in
+    let listed = take t.locations t.homes in
+    let fits : home.Home → Bool = λ h. leb 1 h.owner.0 && leb h.owner.0 t.machines in
+    all_from_yields_List fits _ _ _ c.all.ensures.ran (YieldsList-from_slice listed (search rules))
+    (λ x b q k. search (rules, tests))
+    ∙ sym (fit_all t.machines listed)

@@ -4,11 +4,9 @@ use Rattle.schedules.specs.Answers.{step_of}
 use Rattle.replay.proofs.Going.{propagates}
 use Rattle.replay.proofs.walking.step_silently.Goals as goal
 
-pub returns-then-i-eq0 : goal.returns-then-i-eq0
+pub returns-then-p-eq0 : goal.returns-then-p-eq0
 unfolding silent_of
-returns-then-i-eq0 c = rw c.if-i-eq0.true c.write_back.ensures.result_value
+returns-then-p-eq0 c = rw c.if-p-eq0.true c.write_back.ensures.meaning
 
-pub returns : goal.returns
-returns c =
-    let p = step_of c.args.p in
-    rw (propagates p c.if-i-eq0.false) c.propagate.ensures.result_value
+pub returns-else-p-eq0 : goal.returns-else-p-eq0
+returns-else-p-eq0 c = rw (propagates (step_of c.args.p) c.if-p-eq0.false) c.propagate.ensures.meaning

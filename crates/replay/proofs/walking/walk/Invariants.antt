@@ -1,4 +1,6 @@
--- `walk` takes one thing after the other: its loop keeps `Stands`, with one thing less ahead each time.
+-- The loop keeps `Stands`, with one thing less ahead each time.
+use Prim.Native.Nat.{ℕ, ◌+◌}
+use mathlib.Core.Path.{◌≡◌}
 use Rattle.model.specs.Cxl0.{start}
 use Rattle.model.specs.Meaning.{topology_of}
 use Rattle.states.specs.States.{state_of}
@@ -6,10 +8,7 @@ use Rattle.replay.specs.Replaying.{Answer}
 use Rattle.replay.specs.Places.{Stands}
 use Rattle.replay.proofs.walking.walk.Given as goal
 
-abbrev pub invariant-loop-left : goal.invariant-loop-left
-invariant-loop-left l =
+abbrev pub invariant-loop : goal.invariant-loop
+invariant-loop l =
     (a : Answer) → Stands l.log l.schedule l.t l.events a l.ahead (start (topology_of l.t)) l.initial.w
-    → Stands l.log l.schedule l.t l.events a l.left (state_of l.t l.s) l.w
-
-abbrev pub decreases-loop-left : goal.decreases-loop-left
-decreases-loop-left l = l.left
+    → (k : ℕ) → l.counter + k ≡ l.ahead → Stands l.log l.schedule l.t l.events a k (state_of l.t l.s) l.w

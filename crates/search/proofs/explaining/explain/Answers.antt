@@ -2,7 +2,6 @@
 use native.Mathlib.Numerals.{add-one}
 use native.Mathlib.Omega.{arith}
 use mathlib.Core.Path.{◌≡◌}
-use borrow.Author.Tests.{not-true, not-false}
 use Rattle.search.proofs.Explanations.{Explaining, explaining_none, explaining_since, explaining_end}
 use Rattle.search.proofs.Explanations.{explaining_continues, explaining_more, explaining_ends}
 use Rattle.search.proofs.Explanations.{explaining_all}
@@ -17,40 +16,35 @@ overflow_add-p c = omega (arith, c.requires.short)
 pub loop-t-init : goal.loop-t-init
 loop-t-init c =
     let a = c.args in
-    (omega arith, explaining_none a.site a.count c.put_copy.ensures)
+    explaining_none a.site a.count c.put_copy.ensures
 
-pub go_on-next-requires : goal.go_on-next-requires
-go_on-next-requires c =
+pub go_on-requires : goal.go_on-requires
+go_on-requires c =
     let a = c.args in
     let since : Explaining a.site a.count a.w.now c.loop-t.t c.loop-t.p c.loop-t.w =
-    explaining_since a.site a.count c.put_copy.ensures c.loop-t.invariant.1 in
+    explaining_since a.site a.count c.put_copy.ensures c.loop-t.invariant in
     explaining_continues a.site a.events a.count a.w.now c.requires since
     c.loop-t-test.true
 
-pub returns-then-not-next : goal.returns-then-not-next
-returns-then-not-next c =
+pub returns-in_default : goal.returns-in_default
+returns-in_default c =
     let a = c.args in
     let since : Explaining a.site a.count a.w.now c.loop-t.t c.loop-t.p c.loop-t.w =
-    explaining_since a.site a.count c.put_copy.ensures c.loop-t.invariant.1 in
+    explaining_since a.site a.count c.put_copy.ensures c.loop-t.invariant in
     explaining_ends a.site a.events a.count a.w.now c.requires since
-    c.loop-t-test.true c.go_on-next.ensures (not-true _ c.if-not-next.true)
+    c.loop-t-test.true c.in_default.ensures
 
 pub loop-t-preserved : goal.loop-t-preserved
-loop-t-preserved c = (
-  omega arith,
-  rw (add-one c.loop-t.t)
-      (explaining_more c.loop-t.invariant.1 c.requires.short c.go_on-next.ensures
-      (not-false _ c.if-not-next.false)),
-)
+loop-t-preserved c =
+    rw (add-one c.loop-t.t) (explaining_more c.loop-t.invariant c.requires.short c.in-Some.ensures)
 
 pub overflow_sub-result : goal.overflow_sub-result
-overflow_sub-result c = explaining_end c.loop-t.invariant.1
+overflow_sub-result c = explaining_end c.loop-t.invariant
 
 pub returns : goal.returns
 returns c =
     let a = c.args in
     let since : Explaining a.site a.count a.w.now c.loop-t.t c.loop-t.p c.loop-t.w =
-    explaining_since a.site a.count c.put_copy.ensures c.loop-t.invariant.1 in
+    explaining_since a.site a.count c.put_copy.ensures c.loop-t.invariant in
     let all : c.loop-t.t ≡ a.events = omega arith in
-    rw all
     (explaining_all a.site a.events a.count a.w.now c.requires (rw all at since))

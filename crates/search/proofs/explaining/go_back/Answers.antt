@@ -6,18 +6,14 @@ use Rattle.search.proofs.explaining.go_back.Goals as goal
 pub overflow_add-m : goal.overflow_add-m
 overflow_add-m c = omega (arith, c.requires.ready.few)
 
-pub retrace-from-requires : goal.retrace-from-requires
-retrace-from-requires c = retraceable c.requires
+pub retrace-requires : goal.retrace-requires
+retrace-requires c = retraceable c.requires
 
-pub resume-waypoint-requires : goal.resume-waypoint-requires
-resume-waypoint-requires c =
-    resumable c.requires c.retrace-from.ensures c.if-from-m.true
+pub resume-requires : goal.resume-requires
+resume-requires c = resumable c.requires c.in_ok-from.ensures
 
-pub returns-then-from-m : goal.returns-then-from-m
-returns-then-from-m c =
-    went_back c.requires c.retrace-from.ensures c.if-from-m.true
-    c.resume-waypoint.ensures
+pub returns-in_err-from : goal.returns-in_err-from
+returns-in_err-from c = rw c.from_residual.ensures (went_nowhere c.requires c.in_err-from.ensures)
 
 pub returns : goal.returns
-returns c =
-    went_nowhere c.requires c.retrace-from.ensures c.if-from-m.false
+returns c = went_back c.requires c.in_ok-from.ensures c.resume.ensures

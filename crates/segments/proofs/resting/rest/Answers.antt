@@ -1,7 +1,7 @@
 -- `segments::resting::rest` meets its contract.
-use Rattle.std.proofs.Common.{◌+◌, sym, ap, ◌∙◌}
+use Rattle.std.proofs.Common.{min, ◌+◌, sym, ap, ◌∙◌}
 use Rattle.segments.specs.Words.{CostsFit}
-use Rattle.segments.specs.Costs.{lesser, plus}
+use Rattle.segments.specs.Costs.{plus}
 use Rattle.segments.specs.declared.words.Costs.{Costs}
 use Rattle.segments.proofs.Rests.{costs_fit}
 use Rattle.segments.proofs.Rests.{Resting, resting_none, resting_same, resting_more, resting_spared, resting_end}
@@ -17,8 +17,8 @@ returns-then-get_value-m c =
     let same = sym c.if-get_value-m.true ∙ c.get_value.ensures in
     let costs = ap (λ (r : Costs). plus c.loop-l.kept r.same) c.get_costs-costs.ensures in
     let sum = c.add.ensures ∙ costs in
-    c.least_of.ensures
-    ∙ ap (lesser c.other-never.result) sum
+    c.min.ensures
+    ∙ ap (min c.other-never.result) sum
     ∙ sym (resting_same c.loop-l.invariant c.loop-l-test.true same)
 
 -- What a segment costs fits.
@@ -51,6 +51,6 @@ returns-then-never-kept c =
 pub returns : goal.returns
 returns c =
     let sum = c.add-2.ensures ∙ ap (plus c.loop-l.kept) c.after_all.ensures in
-    c.least_of-2.ensures
-    ∙ ap (lesser c.other-never.result) sum
+    c.min-2.ensures
+    ∙ ap (min c.other-never.result) sum
     ∙ sym (resting_end c.loop-l.invariant c.loop-l-test.false)

@@ -1,8 +1,7 @@
 -- `other_costs` meets its contract.
 use Rattle.std.proofs.Common.{refl, arith}
 use Rattle.scratch.proofs.Frames.{only_wider}
-use Rattle.segments.specs.Weighing.{written_of}
-use Rattle.segments.proofs.Cheapest.{spared_far, keeps_far, others_right}
+use Rattle.segments.proofs.Cheapest.{keeps_far, others_right}
 use Rattle.segments.proofs.weighing.other_costs.Goals as goal
 
 -- With a reset, nothing keeps the value.
@@ -19,20 +18,6 @@ returns-then-s c =
           };
     }
 
-pub keep-kept-requires : goal.keep-kept-requires
-keep-kept-requires c =
-    let ok = c.requires in
-    let whole = c.if-s.false in
-    let far = spared_far (written_of c.args.s c.args.back c.args.seen) c.args.least in (
-      record {
-        whole = whole;
-        task = ok.keeping whole;
-        code = ok.code;
-        most = rw (c.spared.ensures, c.written-paid.ensures) far;
-      },
-      ok.sight,
-    )
-
 pub add-requires : goal.add-requires
 add-requires c =
     let kept = rw (c.spared.ensures, c.written-paid.ensures) at c.keep-kept.ensures in
@@ -44,7 +29,7 @@ returns c =
     rw (
       c.only_below.ensures,
       c.spared-2.ensures,
-      c.least_of-other.ensures,
+      c.min-other.ensures,
       c.add.ensures,
       c.written-paid.ensures,
     )

@@ -1,11 +1,10 @@
 -- `same_cost` meets its contract.
-use Prim.Native.Nat.{ℕ, ◌+◌, ◌≤◌}
+use Prim.Native.Nat.{ℕ, ◌+◌, ◌≤◌, min}
 use mathlib.Core.Path.{◌≡◌, sym, ◌∙◌, ap, subst}
 use Rattle.levels.specs.Stretches.{FAR}
 use Rattle.levels.specs.Tasks.{Fewest}
-use Rattle.segments.specs.Costs.{lesser}
 use Rattle.segments.specs.Weighing.{written_of}
-use Rattle.segments.proofs.Cheapest.{same_through, same_written, same_sought, written_far}
+use Rattle.segments.proofs.Cheapest.{same_through, same_written, same_sought}
 use Rattle.segments.proofs.weighing.same_cost.Goals as goal
 
 pub returns-then-seen : goal.returns-then-seen
@@ -21,14 +20,6 @@ returns-then-paid-back c =
     subst (λ (n : ℕ). Fewest a.q a.s.first a.s.code FAR a.w.now n a.w.now) (sym paid)
     (same_written c.requires c.if-s.false c.if-seen.false few)
 
-pub fewest-requires-2 : goal.fewest-requires-2
-fewest-requires-2 c =
-    let paid : let a = c.args in
-    c.written-paid.result ≡ written_of a.s a.back a.seen =
-    c.written-paid.ensures in
-    let far = subst (λ (n : ℕ). n ≤ FAR) (sym paid) (written_far c.args.s c.args.back c.args.seen) in
-    (c.requires.ready, c.requires.code, far)
-
 -- Less was sought.
 pub returns : goal.returns
 returns c =
@@ -40,5 +31,5 @@ returns c =
     let v = c.fewest-2.new.w in
     let found : ℕ → Type 0 = λ n. Fewest a.q a.s.first a.s.code n a.w.now r v in
     let all = same_sought c.requires c.if-s.false (subst found paid c.fewest-2.ensures) in
-    let least = c.least_of.ensures ∙ ap (λ (n : ℕ). lesser n r) paid in
+    let least = c.min.ensures ∙ ap (λ (n : ℕ). min n r) paid in
     subst (λ (n : ℕ). Fewest a.q a.s.first a.s.code FAR a.w.now n v) (sym least) all

@@ -127,5 +127,5 @@ returns c =
     let same = same_found at.After-same_cost-same in
     let others = others_found at.After-other_costs-others in
     let put = rw (c.rest-back.ensures, c.get_segment-s.ensures, add-one c.args.l) at c.put_costs.ensures in
-    rw (c.least_of-2.ensures, c.least_of.ensures, c.add.ensures)
+    rw (c.min-2.ensures, c.min.ensures, c.add.ensures)
     (weighed c.requires c.fill_backs-bounds.ensures same others put)

@@ -1,16 +1,16 @@
--- `State::crashed` meets its contract. The loop's invariant: the entries before `at` are as the crash leaves
--- them, and the others are as they were.
-use Prim.Native.Nat.{ℕ, ◌-◌}
+-- The entries before `at` are as the crash leaves them, and the others are as they were.
+use Prim.Native.Nat.{ℕ, ◌<◌, ◌≤◌}
 use mathlib.Core.Path.{◌≡◌}
-use lib.ListN.{length}
+use lib.ListN.{length, get_or}
+use Rattle.model.specs.Cxl0.{event}
 use Rattle.model.specs.Meaning.{meant}
-use Rattle.states.specs.States.{entry_at}
-use Rattle.states.proofs.Crashes.{partly}
+use Rattle.entries.specs.Entries.{empty_entry}
+use Rattle.states.specs.States.{entry_at, entry_after}
 use Rattle.states.proofs.State.crashed.Given as goal
 
 abbrev pub invariant-loop-at : goal.invariant-loop-at
 invariant-loop-at l =
-    (length l.self.entries ≡ 32) × ((y : ℕ) → entry_at l.self y ≡ partly l.t (meant l.e) l.initial.self l.at y)
-
-abbrev pub decreases-loop-at : goal.decreases-loop-at
-decreases-loop-at l = 32 - l.at
+    (length l.entry-items ≡ 32)
+    × ((y : ℕ) → y < l.at
+    → get_or l.entry-items y empty_entry ≡ entry_after l.t (event (meant l.e)) y (entry_at l.fn.self y))
+    × ((y : ℕ) → l.at ≤ y → get_or l.entry-items y empty_entry ≡ entry_at l.fn.self y)

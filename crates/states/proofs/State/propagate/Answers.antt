@@ -13,23 +13,16 @@ pub returns-then-not-names : goal.returns-then-not-names
 unfolding admits named concerns silent_at
 returns-then-not-names c =
     let room : length c.args.self.entries ≡ 32 = search mapped in
-    let r = turned_away _ _ _ _ (λ y. refl) room (sym c.if-not-names.ensures) c.refused.ensures in
-    record { result_value = r.0; kept = r.1.0; whole = r.1.1 }
+    turned_away _ _ _ _ (λ y. refl) room (sym c.if-not-names.ensures) refl
 
 pub returns : goal.returns
 unfolding admits named concerns silent_at entry_at
 returns c =
-    let room : length c.args.self.entries ≡ 32 = search mapped in
+    let room : length c.args.self.entries ≡ 32 = search (mapped, c.well_formed) in
     let acts = rw (c.of.ensures.0, c.of.ensures.1, c.masked.ensures) at c.propagate-made.ensures in
-    let r = settled _ _ _ _ (λ y. refl) room (sym c.if-not-names.ensures) acts c.held_after-after.ensures in
-    record { result_value = r.0; kept = r.1.0; whole = r.1.1 }
+    settled _ _ _ _ (λ y. refl) room (sym c.if-not-names.ensures) acts c.then_some.ensures
 
-pub bounds-self-at : goal.bounds-self-at
-bounds-self-at c =
+pub bounds-self-x : goal.bounds-self-x
+bounds-self-x c =
     let homes : length c.args.t.homes ≡ 32 = search mapped in
-    named_in c.args.t homes _ c.args.i.0 (sym c.if-not-names.ensures)
-
-pub bounds-self-at-2 : goal.bounds-self-at-2
-bounds-self-at-2 c =
-    let homes : length c.args.t.homes ≡ 32 = search (mapped, c.well_formed) in
     named_in c.args.t homes _ c.args.i.0 (sym c.if-not-names.ensures)

@@ -1,12 +1,9 @@
--- `are_steps` says whether the words are steps of a file: whether those from `i` on follow is what is left to ask.
-use Prim.Native.Nat.{◌≤◌, ◌-◌}
+-- `are_steps` says whether the words are steps of a file: whether those from the next one on follow is what is left to
+-- ask.
 use mathlib.Core.Path.{◌≡◌}
-use lib.ListN.{length, drop}
+use lib.ListN.{drop}
 use Rattle.verdict_file.proofs.Words.{follow}
 use Rattle.verdict_file.proofs.filling.are_steps.Given as goal
 
-abbrev pub invariant-loop-i : goal.invariant-loop-i
-invariant-loop-i l = (l.i ≤ length l.steps) × (follow 0 l.steps ≡ follow l.least (drop l.i l.steps))
-
-abbrev pub decreases-loop-i : goal.decreases-loop-i
-decreases-loop-i l = length l.steps - l.i
+abbrev pub invariant-loop-word : goal.invariant-loop-word
+invariant-loop-word l = follow 0 l.steps ≡ follow l.least (drop l.word-index l.steps)

@@ -10,12 +10,6 @@ use Rattle.fields.specs.Put.{put}
 use Rattle.fields.proofs.Put.{put_more}
 use Rattle.verdict_file.proofs.filling.fill_impossible.Goals as goal
 
-pub put_header-at-requires : goal.put_header-at-requires
-put_header-at-requires c = omega arith
-
-pub put_end-requires : goal.put_end-requires
-put_end-requires c = omega arith
-
 pub returns : goal.returns
 unfolding file_of header end field bytes_of
 returns c =

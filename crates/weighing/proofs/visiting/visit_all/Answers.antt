@@ -1,5 +1,4 @@
 -- `visit_all` visits one location after the other.
-use Prim.Native.Nat.{◌≤◌}
 use native.Mathlib.Numerals.{add-one}
 use native.Mathlib.Omega.{arith}
 use lib.ListN.{length}
@@ -15,16 +14,13 @@ use Rattle.weighing.proofs.AllVisits.{visits_none, visits_can, visits_more}
 use Rattle.weighing.proofs.visiting.visit_all.Goals as goal
 
 pub loop-x-init : goal.loop-x-init
-loop-x-init c = (omega arith, visits_none c.requires)
+loop-x-init c = visits_none c.requires
 
 full : (c : goal.After-at) → length c.args.t.homes ≡ 32
 full c = search mapped
 
-few : (c : goal.In-loop-x) → c.args.t.locations ≤ 32
-few c = (within c.args.t c.requires.limits).locations_few
-
-pub bounds-t-at : goal.bounds-t-at
-bounds-t-at c = omega (arith, few c)
+pub bounds-t-x : goal.bounds-t-x
+bounds-t-x c = omega (arith, (within c.args.t c.requires.limits).locations_few)
 
 -- The site is that of the location whose turn it is.
 sited : (c : goal.After-at) →
@@ -40,15 +36,15 @@ visit-p-requires c =
     let x = c.loop-x.x in
     let listed = is_listed t (full c) c.requires.limits x (omega arith) in
     let here = ap (λ (l : Location). l.0) c.at.ensures.1 in
-    rw here (visits_can c.requires c.loop-x.invariant.1 listed, sited c)
+    rw here (visits_can c.requires c.loop-x.invariant listed, sited c)
 
 pub loop-x-preserved : goal.loop-x-preserved
 loop-x-preserved c =
     let here = ap (λ (l : Location). l.0) c.at.ensures.1 in
     let visited = rw here at c.visit-p.ensures in
-    (omega arith, rw (add-one c.loop-x.x) (visits_more c.requires c.loop-x.invariant.1 visited))
+    rw (add-one c.loop-x.x) (visits_more c.requires c.loop-x.invariant visited)
 
 pub returns : goal.returns
 returns c =
     let all : c.loop-x.x ≡ c.args.t.locations = omega arith in
-    rw all at c.loop-x.invariant.1
+    rw all at c.loop-x.invariant
