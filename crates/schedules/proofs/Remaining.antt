@@ -1,5 +1,5 @@
 -- Reading a schedule step by step: what remains to read after the steps so far.
-use Prim.Native.Nat.{ℕ, suc, ◌+◌, ◌≤◌}
+use Prim.Native.Nat.{ℕ, suc, ◌+◌, ◌≤◌, ◌<◌}
 use native.Mathlib.Nat.{add-zero, zero-add, add-suc, suc-add}
 use native.Mathlib.Omega.{arith}
 use mathlib.Core.Path.{◌≡◌, refl, sym, ap, ◌∙◌}
@@ -74,6 +74,11 @@ module _ (sys : Topology) (n : ℕ) where
       rw (fails (leb (count + suc (length ps)) steps_most) (leb least p.before && leb p.before n)
       (step_fits sys p) (in_order p.before n ps) (every_step_fits sys ps) e)
 
+  overfull : (least count : ℕ) (o : Option (List Step)) → steps_most < count
+      → rest sys n least count o ≡ refused 13
+  overfull least count none h = refl
+  overfull least count (some ps) h = rw (lt-leb (count + length ps) steps_most (omega arith))
+
   crowded : (least count : ℕ) (p : Step) (o : Option (List Step)) → steps_most ≤ count
       → rest sys n least count (map (λ ps. p ∷ ps) o) ≡ refused 13
   crowded least count p none h = refl
@@ -110,8 +115,12 @@ module _ (sys : Topology) (n : ℕ) where
           → remaining sys n s at least count ≡ refused 13
       breaks e last = ap (rest sys n least count) (absent s at e) ∙ rw last
 
+      -- After more steps than there may be, whatever follows is refused.
+      pub too_many : steps_most < count → remaining sys n s at least count ≡ refused 13
+      too_many h = overfull least count (read_steps (drop at s)) h
+
       -- After as many steps as there may be, none may follow.
-      pub too_many : {p : Step} {next : ℕ} → step_at s at ≡ some (p, next) → steps_most ≤ count
+      pub one_too_many : {p : Step} {next : ℕ} → step_at s at ≡ some (p, next) → steps_most ≤ count
           → remaining sys n s at least count ≡ refused 13
-      too_many {p} {next} e full =
+      one_too_many {p} {next} e full =
           ap (rest sys n least count) (found s at e) ∙ crowded least count p (read_steps (drop next s)) full

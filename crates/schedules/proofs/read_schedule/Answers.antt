@@ -8,7 +8,7 @@ use Rattle.schedules.specs.Answers.{step_at_of}
 use Rattle.schedules.proofs.Fields.{long_header}
 use Rattle.schedules.proofs.Cursor.{within}
 use Rattle.schedules.proofs.Remaining.{not_allowed, at_first}
-use Rattle.schedules.proofs.Remaining.{follows, misfits, ends, breaks, too_many}
+use Rattle.schedules.proofs.Remaining.{follows, misfits, ends, breaks, one_too_many}
 use Rattle.schedules.proofs.read_schedule.Goals.{then-steps-eq-STEPS_MOST-via-then-steps-eq-STEPS_MOST}
 use Rattle.schedules.proofs.read_schedule.Goals.{then-steps-eq-STEPS_MOST-via-else-steps-eq-STEPS_MOST+then-not-may_follow}
 use Rattle.schedules.proofs.read_schedule.Goals as goal
@@ -36,7 +36,7 @@ returns-then-steps-eq-STEPS_MOST c =
     let step = sym c.step_at.ensures ∙ ap step_at_of c.in-Some.is in
     elim c.then-steps-eq-STEPS_MOST.branch [
       | then-steps-eq-STEPS_MOST-via-then-steps-eq-STEPS_MOST w ↦
-          let full = too_many (topology_of a.t) a.events a.file.now l.at l.least l.steps step (omega arith) in
+          let full = one_too_many (topology_of a.t) a.events a.file.now l.at l.least l.steps step (omega arith) in
           sym (l.invariant.rest ∙ full)
       | then-steps-eq-STEPS_MOST-via-else-steps-eq-STEPS_MOST+then-not-may_follow w ↦
           let may = sym w.may_follow.ensures ∙ w.if-not-may_follow.true in
