@@ -1,6 +1,6 @@
 // The walk through events and silent steps: the whole system's state goes from one to the next.
 ghost use Rattle.std.specs.Prelude.{ℕ, suc, ◌+◌, ◌<◌, ◌≡◌};
-ghost use Rattle.std.specs.Option.{MatchOption, IsSomeAnd};
+ghost use Rattle.std.specs.Option.{IsSomeAnd};
 ghost use Rattle.std.proofs.Math.Option.{some};
 ghost use Rattle.model.specs.Cxl0 as cxl0;
 ghost use Rattle.model.specs.Cxl0.{event, silent};
@@ -100,25 +100,6 @@ fn next_at(log: &[u8], schedule: &[u8], events: u8, w: Place) -> Option<Next>
     }
 }
 
-// The state after what comes next, and where the replay stands then, if that is possible. Otherwise the answer is no.
-fn turn(
-    log: &[u8],
-    schedule: &[u8],
-    t: Topology,
-    events: u8,
-    s: State,
-    w: Place,
-) -> Option<(State, Place)>
-    ensures { (a : Answer) (k : ℕ)
-        → Stands log.now schedule.now t events a (suc k) (state_of t s) w
-        → MatchOption result (Answer.no w.passed ≡ a)
-        (λ r. Stands log.now schedule.now t events a k (state_of t r.0) r.1) }
-{
-    let next = next_at(log, schedule, events, w)?;
-    let after = take(t, s, next.thing)?;
-    Some((after, next.place))
-}
-
 // Takes what is ahead from the system's start on, so many events and steps together, one after the other.
 pub(crate) fn walk(
     log: &[u8],
@@ -135,11 +116,14 @@ pub(crate) fn walk(
     let mut s = State::start(t);
     let mut w = start;
     for _ in 0..ahead {
-        let Some((after, place)) = turn(log, schedule, t, events, s, w) else {
+        if let Some(next) = next_at(log, schedule, events, w)
+            && let Some(after) = take(t, s, next.thing)
+        {
+            s = after;
+            w = next.place;
+        } else {
             return Replayed::No(w.passed);
-        };
-        s = after;
-        w = place;
+        }
     }
     Replayed::Yes
 }

@@ -1,4 +1,5 @@
 pub mod Effects
+pub mod Homes
 pub mod Starts
 pub mod After
 pub mod Settled

@@ -1,13 +1,13 @@
 // The steps of a whole system. Each event and each silent step has a method of its own, as the specification asks.
-ghost use Rattle.std.specs.Prelude.{◌≡◌, ◌≢◌, ◌≤◌, ◌&&◌, ◌⊎◌};
-ghost use Rattle.model.specs.Cxl0.{start, event, LStore, RStore, MStore, Load, LFlush, RFlush};
+ghost use Rattle.std.specs.Prelude.{◌≡◌, ◌≢◌, ◌≤◌, cond, ◌&&◌, ◌⊎◌};
+ghost use Rattle.model.specs.Cxl0.{nowhere, start, event, LStore, RStore, MStore, Load, LFlush, RFlush};
 ghost use Rattle.model.specs.Cxl0.{Crash, SetCrash, RMW, L, R, M, silent, Propagate, WriteBack, named};
-ghost use Rattle.model.specs.Meaning.{topology_of, within_limits, meant, attempt_event};
+ghost use Rattle.model.specs.Meaning.{home_of, topology_of, within_limits, meant, attempt_event};
 ghost use Rattle.states.specs.States.{state_of, outcome_of, start_state, state_after, applied_of, Answers};
 
 use super::State;
 use entries::{EMPTY, Entry, Site};
-use model::{Event, LOCATIONS, Location, Machine, Topology};
+use model::{Event, Home, LOCATIONS, Location, Machine, NOWHERE, Topology};
 
 // The event of an operation by its number, of which the event uses what it needs.
 fn numbered(operation: u8, machine: Machine, location: Location, value: u32, written: u32) -> Event
@@ -28,15 +28,25 @@ fn numbered(operation: u8, machine: Machine, location: Location, value: u32, wri
     }
 }
 
+// Where a location lives that is listed or not.
+fn home_if(listed: bool, home: Home) -> Home
+    ensures { home_of result ≡ cond listed (home_of home) nowhere }
+{
+    if listed { home } else { NOWHERE }
+}
+
 impl State {
-    // At the start no cache holds anything and memories hold their initial values.
+    // At the start no cache holds anything and memories hold their initial values. Where a location lives is looked up
+    // here, since a call would copy the topology.
     pub fn start(t: Topology) -> State
         ensures result_value { state_of t result ≡ start (topology_of t) }
         ensures whole { result ≡ start_state t }
     {
         let mut entries = [EMPTY; LOCATIONS];
+        let count = t.locations as usize;
         for (at, entry) in entries.iter_mut().enumerate() {
-            *entry = Entry::start(t.home(Location(at as u8)).initial);
+            let h = home_if(at < count, t.homes[at]);
+            *entry = Entry::start(h.initial);
         }
         State { entries }
     }
@@ -46,8 +56,10 @@ impl State {
         requires { (e.operation ≡ 7) ⊎ (e.operation ≡ 11) }
         ensures { result ≡ state_after t (event (meant e)) self }
     {
+        let count = t.locations as usize;
         for (at, entry) in self.entries.iter_mut().enumerate() {
-            let site = Site::of(t, Location(at as u8));
+            let home = home_if(at < count, t.homes[at]);
+            let site = Site::at(t, Location(at as u8), home);
             *entry = entry.masked(t.machines).act(site, e).entry;
         }
         self

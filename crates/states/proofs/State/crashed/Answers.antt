@@ -10,6 +10,7 @@ use Rattle.entries.specs.Entries.{acted_by, masked_to}
 use Rattle.entries.specs.declared.Entry as entry
 use Rattle.model.proofs.Limits.{mapped}
 use Rattle.states.specs.States.{entry_at}
+use Rattle.states.proofs.Homes.{site_found}
 use Rattle.states.proofs.Crashes.{crash_numbers, done, entry_made}
 use Rattle.states.proofs.State.crashed.Goals as goal
 
@@ -24,8 +25,10 @@ loop-at-preserved c =
     let h = c.args in
     let l = c.loop-at in
     let (sized, before, after) = l.invariant in
+    let homes : length h.t.homes ≡ 32 = search (mapped, c.well_formed.1) in
+    let site-is = site_found h.t homes l.at c.home_if-home.ensures c.at-site.ensures.0 in
     let held = c.masked.ensures ∙ ap (masked_to h.t.machines) (after l.at (le_refl l.at)) in
-    let acts = c.act.ensures ∙ ap₂ (λ (k : Site) (m : entry.Entry). acted_by k h.e m) c.of-site.ensures.0 held in
+    let acts = c.act.ensures ∙ ap₂ (λ (k : Site) (m : entry.Entry). acted_by k h.e m) site-is held in
     let made = entry_made h.t h.e l.at (entry_at h.self l.at) (crash_numbers h.e c.requires).0 acts in (
       length-set l.entry-items _ _ ∙ sized,
       λ y k. grind (arith, common_steps, made, before y),

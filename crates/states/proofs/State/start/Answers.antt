@@ -8,14 +8,17 @@ use Rattle.model.specs.Meaning.{topology_of}
 use Rattle.entries.specs.Entries.{start_entry}
 use Rattle.states.specs.States.{state_of}
 use Rattle.model.proofs.Limits.{mapped}
+use Rattle.states.proofs.Homes.{home_found}
 use Rattle.states.proofs.Starts.{all_filled, begun}
 use Rattle.states.proofs.State.start.Goals as goal
 
 pub loop-at-preserved : goal.loop-at-preserved
 unfolding initial
 loop-at-preserved c =
+    let room : length c.args.t.homes ≡ 32 = search mapped in
+    let home = c.home_if-h.ensures ∙ home_found c.args.t room c.loop-at.at in
     let value : c.start.result ≡ start_entry (initial (topology_of c.args.t) c.loop-at.at) =
-    c.start.ensures ∙ ap (λ (h : Home). start_entry h.initial) c.home.ensures in
+    c.start.ensures ∙ ap (λ (h : Home). start_entry h.initial) home in
     let before = c.loop-at.invariant in
     (length-set c.loop-at.entry-items _ _ ∙ before.0, λ y k. grind (arith, common_steps, value, before.1 y))
 
