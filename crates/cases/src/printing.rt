@@ -2,6 +2,7 @@
 use fields::Refusal;
 use replay::Replayed;
 use std::{fmt, io};
+use text::put_hex;
 
 // Bytes in hexadecimal digits.
 #[derive(Clone, Copy)]
@@ -10,7 +11,11 @@ pub struct Hex<'a>(pub &'a [u8]);
 impl fmt::Display for Hex<'_> {
     fn fmt<W: fmt::Write>(&self, f: &mut fmt::Formatter<W>) -> fmt::Result {
         for b in self.0 {
-            write!(f, "{b:02x}")?;
+            let mut digits = [0u8; 2];
+            put_hex(&mut digits, 0, *b);
+            for digit in digits {
+                f.write_char(char::from(digit))?;
+            }
         }
         Ok(())
     }

@@ -1,4 +1,4 @@
-// Numbers as text: digits into a buffer, and back out of a text. What is put stands from its
+// Numbers as text, for the programs: digits into a buffer, and back out of a text. What is put stands from its
 // position on, as far as the buffer reaches, no other byte changes, and the call gives the position after it
 // (specs/Putting.antt). Reading ends at the first byte that is no digit and where there is no more room, and gives
 // where that is and what was read up to there (specs/Reading.antt). specs/Digits.antt has the digits.
@@ -131,7 +131,11 @@ pub fn decimal(text: &[u8], at: usize) -> Parsed
     ensures { result ≡ number_read text.now at }
 {
     let mut read = Parsed { at, value: 0 };
-    for b in text.iter().skip(at) {
+    // A slice from the position on: std's `skip` would go over all bytes before it.
+    let Some(ahead) = text.get(at..) else {
+        return read;
+    };
+    for b in ahead {
         match char::from(*b).to_digit(10) {
             Some(digit) if read.value < LIMIT / 10 => {
                 read = Parsed {

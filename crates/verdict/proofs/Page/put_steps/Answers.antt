@@ -5,7 +5,7 @@ use Rattle.model.specs.Schedule.{Step}
 use Rattle.schedules.specs.Schedules.{first_step, step_at}
 use Rattle.schedules.specs.Answers.{step_at_of}
 use Rattle.schedules.proofs.Cursor.{within}
-use Rattle.verdict.proofs.Report.fmt_steps.Goals as goal
+use Rattle.verdict.proofs.Page.put_steps.Goals as goal
 
 further : (s : List ℕ) (at : ℕ) {p : Step} {next : ℕ} → step_at s at ≡ some (p, next) → at + 6 ≡ next
 unfolding step_at
@@ -14,6 +14,6 @@ further s at e =
     ap (λ (r : Step × ℕ). r.1) place
 
 pub loop-step-smaller : goal.loop-step-smaller
-loop-step-smaller g c =
+loop-step-smaller c =
     let found = sym c.step_at.ensures ∙ ap step_at_of c.in-Some.is in
     omega (arith, within _ _ found, further _ _ found)
