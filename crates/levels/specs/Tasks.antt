@@ -1,6 +1,6 @@
 -- A task: a stretch of the events in the scratch area with what is to pay behind it; its levels, and what the passes
 -- over it ask and leave.
-use Rattle.std.specs.Prelude.{ℕ, suc, ◌+◌, ◌-◌, ◌≤◌, ◌<◌, ◌≡◌, ◌↔◌, ◌⊎◌, Bool, true, false, cond, not, ◌||◌, List, eqb, leb, length, get_or}
+use Rattle.std.specs.Prelude.{ℕ, zero, suc, ◌+◌, ◌-◌, ◌≤◌, ◌<◌, ◌≡◌, ◌↔◌, ◌⊎◌, Bool, true, false, cond, not, ◌||◌, List, eqb, leb, length, get_or}
 use Rattle.masks.specs.Sets.{Exactly, OneToSix}
 use Rattle.rows.specs.Sites.{Known}
 use Rattle.scratch.specs.Layout.{WORDS, MOST, LEVELS, BACKS, OnlyIn}
@@ -24,6 +24,12 @@ reads_at task t = cond (leb t task.reset) task.same task.later
 -- What is left to pay after a write-back at gap t, where the task has write-backs.
 abbrev pub back_at : Task → List ℕ → ℕ → ℕ
 back_at task w t = cond task.writes (back_in w t) FAR
+
+-- How a stretch closes, by the number that stands for it.
+abbrev pub closing_at : ℕ → Closing
+closing_at zero = Open
+closing_at (suc zero) = Same
+closing_at (suc (suc n)) = Other
 
 -- The codes that the event after the last gap accepts. Open: it reads nothing, or there is none; Same: it reads the
 -- value of the copies; Other: it reads another value.

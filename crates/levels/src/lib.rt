@@ -11,7 +11,7 @@ ghost use Rattle.masks.specs.Sets.{Exactly};
 ghost use Rattle.rows.specs.Sites.{Known};
 ghost use Rattle.scratch.specs.Layout.{WORDS, MOST};
 ghost use Rattle.levels.specs.Stretches.{FAR, Over};
-ghost use Rattle.levels.specs.Tasks.{reads_at, accepting, below_in};
+ghost use Rattle.levels.specs.Tasks.{closing_at, reads_at, accepting, below_in};
 ghost use Rattle.levels.specs.Tasks.{Ready, OnwardOf, GapOf, Passable, Passed, Fewest, Built};
 
 use masks::{
@@ -42,6 +42,19 @@ impl Closing {
             Closing::Open => true,
             Closing::Same => code != 0 || reads,
             Closing::Other => code == 0,
+        }
+    }
+}
+
+// How a stretch closes, by its number: 0 is Open, 1 is Same, any other is Other.
+impl From<u8> for Closing {
+    ghost from_gives = { λ number closing. closing ≡ closing_at number };
+
+    fn from(number: u8) -> Closing {
+        match number {
+            0 => Closing::Open,
+            1 => Closing::Same,
+            _ => Closing::Other,
         }
     }
 }

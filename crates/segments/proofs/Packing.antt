@@ -10,10 +10,11 @@ use denote.Enum.Declared.{tag_of}
 use Rattle.levels.specs.contracts.Closing.{the_type}
 use Rattle.levels.specs.declared.Closing.{Closing}
 use Rattle.levels.specs.declared.Closing.TheVariants.{Open, Same, Other}
+use Rattle.levels.specs.Tasks.{closing_at}
 use Rattle.scratch.specs.Layout.{WORDS, MOST, SEGMENTS}
 use Rattle.scratch.specs.Words.{U32}
 use Rattle.scratch.proofs.Frames.{only_set}
-use Rattle.segments.specs.Words.{closing_at, segment_in, costs_in, SegmentFits, CostsFit, SegmentPut, CostsPut}
+use Rattle.segments.specs.Words.{segment_in, costs_in, SegmentFits, CostsFit, SegmentPut, CostsPut}
 use Rattle.segments.specs.declared.words.Segment.{Segment}
 use Rattle.segments.specs.declared.words.Costs.{Costs}
 

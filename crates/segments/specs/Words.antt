@@ -1,10 +1,9 @@
 -- The words of the segments in the scratch area, two each: the segment, and what it costs.
-use Rattle.std.specs.Prelude.{ℕ, zero, suc, ◌+◌, ◌*◌, ◌/◌, ◌%◌, ◌≤◌, ◌<◌, ◌≡◌, List, get_or}
+use Rattle.std.specs.Prelude.{ℕ, ◌+◌, ◌*◌, ◌/◌, ◌%◌, ◌≤◌, ◌<◌, ◌≡◌, List, get_or}
 use Rattle.scratch.specs.Layout.{SEGMENTS, OnlyIn}
 use Rattle.scratch.specs.Words.{U32}
 use Rattle.levels.specs.Stretches.{FAR}
-use Rattle.levels.specs.declared.Closing.{Closing}
-use Rattle.levels.specs.declared.Closing.TheVariants.{Open, Same, Other}
+use Rattle.levels.specs.Tasks.{closing_at}
 use Rattle.segments.specs.declared.words.Segment.{Segment}
 use Rattle.segments.specs.declared.words.Costs.{Costs}
 
@@ -12,12 +11,6 @@ use Rattle.segments.specs.declared.words.Costs.{Costs}
 -- last gap, its first code with 64 times how it closes, and its first reset.
 abbrev pub segment_word : List ℕ → ℕ → ℕ
 segment_word w l = get_or w (SEGMENTS + 2 * l) 0
-
--- How a segment closes, and the number that stands for it.
-abbrev pub closing_at : ℕ → Closing
-closing_at zero = Open
-closing_at (suc zero) = Same
-closing_at (suc (suc n)) = Other
 
 unfoldable pub segment_in : List ℕ → ℕ → Segment
 segment_in w l =

@@ -1,7 +1,7 @@
 // The words of the segments in the scratch area, as specs/Words.antt has them.
 ghost use Rattle.std.specs.Prelude.{◌+◌, ◌≤◌, ◌≡◌, length};
 ghost use Rattle.scratch.specs.Layout.{WORDS, MOST};
-ghost use Rattle.segments.specs.Words.{closing_at, segment_in, costs_in, SegmentFits, CostsFit, SegmentPut, CostsPut};
+ghost use Rattle.segments.specs.Words.{segment_in, costs_in, SegmentFits, CostsFit, SegmentPut, CostsPut};
 
 use levels::Closing;
 use scratch::{SEGMENTS, U32};
@@ -38,17 +38,6 @@ pub struct Block {
     pub forced: Option<u32>,
 }
 
-// How a segment closes, by the number of two bits that stands for it.
-fn closing_at(number: u64) -> Closing
-    ensures { result ≡ closing_at number }
-{
-    match number {
-        0 => Closing::Open,
-        1 => Closing::Same,
-        _ => Closing::Other,
-    }
-}
-
 // Segment l.
 #[tactic(auto, unfolding(crate::specs::Words::segment_in))]
 pub fn get_segment(w: &[u64], l: usize) -> Segment
@@ -62,7 +51,7 @@ pub fn get_segment(w: &[u64], l: usize) -> Segment
         first: (above % 256) as usize,
         end: (above / 256 % 256) as usize,
         code: (above / 65536 % 64) as u8,
-        closing: closing_at(above / 65536 / 64 % 4),
+        closing: Closing::from((above / 65536 / 64 % 4) as u8),
         reset: (above / 65536 / 256 % 256) as usize,
     }
 }
